@@ -1,0 +1,68 @@
+-- The 30 size classes (document 01, "Numbers of the pool") and the class that serves a request.
+-- Assumes nothing.
+use mathlib.Core.Bool.{Bool, true, false, cond}
+use mathlib.Core.List.{List, [], _∷_}
+use Prim.Native.Nat.{ℕ, zero, suc, _-_}
+use lib.Dec.{leb}
+use lib.ListN.{getD}
+use Rattle.classes.specs.declared.Row.{Row}
+
+abbrev pub rowOf : ℕ → ℕ → ℕ → Row
+rowOf z s p = record { size = z; slots = s; pages = p }
+
+-- class: slot size in bytes, slots in a run, pages in a run
+unfoldable pub rows : List Row
+rows =
+    rowOf 8 512 1 ∷
+    rowOf 16 256 1 ∷
+    rowOf 24 170 1 ∷
+    rowOf 32 128 1 ∷
+    rowOf 40 102 1 ∷
+    rowOf 48 85 1 ∷
+    rowOf 56 73 1 ∷
+    rowOf 64 64 1 ∷
+    rowOf 80 51 1 ∷
+    rowOf 96 42 1 ∷
+    rowOf 112 36 1 ∷
+    rowOf 128 32 1 ∷
+    rowOf 160 25 1 ∷
+    rowOf 192 21 1 ∷
+    rowOf 224 18 1 ∷
+    rowOf 256 16 1 ∷
+    rowOf 320 64 5 ∷
+    rowOf 384 32 3 ∷
+    rowOf 448 9 1 ∷
+    rowOf 512 8 1 ∷
+    rowOf 640 32 5 ∷
+    rowOf 768 16 3 ∷
+    rowOf 896 9 2 ∷
+    rowOf 1024 8 2 ∷
+    rowOf 1280 16 5 ∷
+    rowOf 1536 8 3 ∷
+    rowOf 1792 16 7 ∷
+    rowOf 2048 8 4 ∷
+    rowOf 2560 8 5 ∷
+    rowOf 3072 4 3 ∷
+    []
+
+-- the row of class b; nothing where there is no such class
+unfoldable pub rowAt : ℕ → Row
+rowAt b = getD rows b (rowOf 0 0 0)
+
+unfoldable pub size : ℕ → ℕ
+size b = rowAt b .size
+
+unfoldable pub slots : ℕ → ℕ
+slots b = rowAt b .slots
+
+unfoldable pub pages : ℕ → ℕ
+pages b = rowAt b .pages
+
+-- the first class of these rows, counted from b, whose slots hold n bytes
+unfoldable pub firstHolding : List Row → ℕ → ℕ → ℕ
+firstHolding [] b n = b
+firstHolding (r ∷ rs) b n = let later = firstHolding rs (suc b) n in cond (leb n (r .size)) b later
+
+-- the smallest class that holds n bytes (30 where none does)
+unfoldable pub classFor : ℕ → ℕ
+classFor n = firstHolding rows 0 n
