@@ -1,9 +1,7 @@
 // The 30 size classes, as constant rows, and the class that serves a request.
 ghost use mathlib.Core.Path.{_≡_};
 ghost use Prim.Native.Nat.{ℕ, _<_, _≤_};
-ghost use Rattle.classes.specs.Classes.{rows, rowAt, classFor};
-
-mod table;
+ghost use Rattle.classes.specs.Classes.{rows, rowAt};
 
 // One size class: slot size in bytes, slots in a run, pages in a run.
 pub struct Row {

@@ -1,0 +1,6 @@
+pub mod Flags
+pub mod KindLaws
+pub mod WalkLaws
+pub mod RunLaws
+pub mod FreshLaws
+pub mod AdmitLaws

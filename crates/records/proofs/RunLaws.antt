@@ -1,0 +1,204 @@
+-- The runs of sound records lie apart, inside their chunks and off page 0. Assumes nothing.
+use mathlib.Core.Path.{_≡_, refl, sym, ap, _∙_, subst}
+use mathlib.Core.Logic.{_≢_, _⊎_, inl, inr, ⊎-elim, by-cases}
+use mathlib.Core.Bool.{Bool, true, false, cond, _&&_, false≢true, true≢false}
+use mathlib.Core.Option.{Option, none, some, Option·none-ne-some, Option·some-injective}
+use mathlib.Core.List.{List, [], _∷_}
+use Prim.Native.Nat.{ℕ, zero, suc, _+_, _-_, _*_, _/_, _%_, _≤_, _<_}
+use native.Mathlib.Decide.{ℕ-discrete, decLt, decLe}
+use native.Mathlib.Omega.{arith}
+use lib.Dec.{eqb}
+use lib.ListN.{length, getD}
+use borrow.Author.Tests.{eq-eqb, ne-eqb}
+use Rattle.bitrow.specs.Row.{isSet}
+use Rattle.records.specs.Kinds.{Kind, edge, free, damaged, large, class, inner, kindOf, zeros, behind, innerWords, wordsOf}
+use Rattle.records.specs.Pool.{Pool, isEdge, kindAt}
+use Rattle.records.specs.Sound.{step, sound}
+use Rattle.records.specs.Runs.{spanOf, InRun, Runs}
+use Rattle.records.proofs.Flags.{eq-cases, lt-cases, le-cases}
+use Rattle.records.proofs.KindLaws.{length-zeros, getD-zeros, length-inner, getD-inner, kind-inner}
+use Rattle.records.proofs.WalkLaws.{walk, Goes, walk-next, Sound, sound-walks, walk-found, Begins, walk-at, Home, walk-home, walk-right}
+
+-- ---- what a word can mean
+
+-- a page of a run: not page 0, not free, not damaged
+abbrev pub Mid : Kind → Type 0
+Mid edge = ⊥
+Mid free = ⊥
+Mid damaged = ⊥
+Mid (large k) = Unit {0}
+Mid (class b) = Unit {0}
+Mid (inner w) = Unit {0}
+
+no-mid-edge : (t : Bool) (w : ℕ) → Mid (kindOf true t w) → ⊥
+no-mid-edge false w m = m
+no-mid-edge true w m = eq-cases (λ (k : Kind). Mid k → ⊥) w 0x40000001 (λ e x. x) (λ e x. x) m
+
+-- no page 0 is a page of a run
+pub mid-off : (p : Pool) (g : ℕ) → Mid (kindAt p g) → g % 512 ≢ 0
+unfolding kindAt isEdge
+mid-off p g m e =
+    no-mid-edge (isSet (p .bits) g) (getD (p .words) g 0)
+    (subst (λ (v : Bool). Mid (kindOf v (isSet (p .bits) g) (getD (p .words) g 0))) (eq-eqb (g % 512) 0 e) m)
+
+-- there are 30 classes
+abbrev Low : Kind → Type 0
+Low edge = Unit {0}
+Low free = Unit {0}
+Low damaged = Unit {0}
+Low (large k) = Unit {0}
+Low (class b) = b < 30
+Low (inner w) = Unit {0}
+
+kind-low : (v t : Bool) (w : ℕ) → Low (kindOf v t w)
+kind-low true false w = tt
+kind-low true true w = eq-cases Low w 0x40000001 (λ a. tt) (λ a. tt)
+kind-low false false w = eq-cases Low w 0 (λ a. tt) (λ a. tt)
+kind-low false true w =
+    le-cases Low 0xC0000000 w (λ a. tt)
+    (λ a. le-cases Low 0x80000000 w (λ b. lt-cases Low w 0x8000001E (λ d. omega arith) (λ d. tt))
+      (λ b. le-cases Low 0x40000001 w (λ d. lt-cases Low w 0x40000200 (λ e. tt) (λ e. tt)) (λ d. eq-cases Low w 0 (λ e. tt) (λ e. tt))))
+
+pub class-at-low : (p : Pool) (g b : ℕ) → kindAt p g ≡ class b → b < 30
+unfolding kindAt
+class-at-low p g b e = subst Low e (kind-low (isEdge g) (isSet (p .bits) g) (getD (p .words) g 0))
+
+-- a high word on a page that is not damaged is that of a page inside a run
+high-kind : (v t : Bool) (w : ℕ) → 0xC0000000 ≤ w → kindOf v t w ≢ damaged → kindOf v t w ≡ inner w
+high-kind true false w h n = absurd (n refl)
+high-kind true true w h n =
+    eq-cases (λ (k : Kind). k ≢ damaged → k ≡ inner w) w 0x40000001 (λ e x. absurd (omega arith)) (λ e x. absurd (x refl)) n
+high-kind false false w h n = eq-cases (λ (k : Kind). k ≢ damaged → k ≡ inner w) w 0 (λ e x. absurd (omega arith)) (λ e x. absurd (x refl)) n
+high-kind false true w h n = kind-inner w h
+
+-- ---- a run's pages
+
+-- what begins at a page, with the words behind its first page, and the pages that a run has
+pub begins-run : (k : Kind) (ws : List ℕ) → step [] k ≡ some ws → 0 < spanOf k → spanOf k ≡ suc (length ws)
+begins-run edge ws e h = absurd (omega arith)
+begins-run free ws e h = absurd (omega arith)
+begins-run damaged ws e h = absurd (omega arith)
+begins-run (large k) ws e h = ap suc (sym (length-zeros k) ∙ ap length (Option·some-injective _ _ e))
+begins-run (class b) ws e h = ap suc (sym (length-inner b 1 (behind b)) ∙ ap length (Option·some-injective _ _ e))
+begins-run (inner w) ws e h = absurd (omega arith)
+
+run-begins : (k : Kind) → 0 < spanOf k → Begins k
+run-begins edge h w ws t x = Option·none-ne-some t x
+run-begins free h w ws t x = Option·none-ne-some t x
+run-begins damaged h w ws t x = Option·none-ne-some t x
+run-begins (large k) h w ws t x = Option·none-ne-some t x
+run-begins (class b) h w ws t x = Option·none-ne-some t x
+run-begins (inner v) h w ws t x = absurd (omega arith)
+
+run-mid : (k : Kind) → 0 < spanOf k → Mid k
+run-mid edge h = absurd (omega arith)
+run-mid free h = absurd (omega arith)
+run-mid damaged h = absurd (omega arith)
+run-mid (large k) h = tt
+run-mid (class b) h = tt
+run-mid (inner w) h = absurd (omega arith)
+
+-- a run ends inside the pages walked, and its pages behind the first are inner pages
+pub record Whole (K : ℕ → Kind) (N g : ℕ) : Type 0 where
+  pub ends : g + spanOf (K g) ≤ N
+  pub word : ℕ → ℕ
+  pub rest : (i : ℕ) → g < i → i < g + spanOf (K g) → K i ≡ inner (word i)
+
+pub walk-run : (K : ℕ → Kind) (N g : ℕ) → walk K [] 0 N ≡ true → g < N → 0 < spanOf (K g) → Whole K N g
+walk-run K N g h l s =
+    let m : ℕ = N - suc g in
+    let w = walk-at K g [] 0 N g m (omega arith) (omega arith) (run-begins (K g) s) h in
+    let n = walk-next K [] g m w in
+    let z = begins-run (K g) (n .due) (n .steps) s in
+    let (a, f) = walk-found K (n .due) (suc g) m (n .walks) in
+    record {
+      ends = omega arith;
+      word = λ i. getD (n .due) (i - suc g) 0;
+      rest = λ i x y. let r : i ≡ suc g + (i - suc g) = omega arith in ap K r ∙ f (i - suc g) (omega arith)
+    }
+
+-- ---- the claims
+
+span-inner : (w : ℕ) (k : Kind) → k ≡ inner w → 0 < spanOf k → ⊥
+span-inner w k e h = let z : spanOf k ≡ 0 = ap spanOf e in omega arith
+
+module _ (c : ℕ) (p : Pool) (s : sound c p ≡ true) where
+  steps : walk (kindAt p) [] 0 (512 * c) ≡ true
+  steps = sound-walks c p s .walks
+
+  some-page : (g i : ℕ) → InRun p g i → 0 < spanOf (kindAt p g)
+  some-page g i r = let a = r .low in let b = r .high in omega arith
+
+  whole : (g i : ℕ) → g < 512 * c → InRun p g i → Whole (kindAt p) (512 * c) g
+  whole g i l r = walk-run (kindAt p) (512 * c) g steps l (some-page g i r)
+
+  page-mid : (g i : ℕ) → g < 512 * c → InRun p g i → Mid (kindAt p i)
+  page-mid g i l r =
+      let a = r .low in
+      by-cases (ℕ-discrete i g) (λ e. subst (λ (j : ℕ). Mid (kindAt p j)) (sym e) (run-mid (kindAt p g) (some-page g i r)))
+      (λ e. subst Mid (sym (whole g i l r .rest i (omega arith) (r .high))) tt)
+
+  -- the lower of two runs has no run start inside
+  no-start : (f g i : ℕ) → f < 512 * c → f < g → InRun p f i → InRun p g i → ⊥
+  no-start f g i l h a b =
+      let low = b .low in let high = a .high in let w = whole f i l a in
+      span-inner (w .word g) (kindAt p g) (w .rest g h (omega arith)) (some-page g i b)
+
+  runs-apart : (f g i : ℕ) → f < 512 * c → g < 512 * c → InRun p f i → InRun p g i → f ≡ g
+  runs-apart f g i l m a b =
+      by-cases (decLt f g) (λ h. absurd (no-start f g i l h a b))
+      (λ h. by-cases (decLt g f) (λ k. absurd (no-start g f i m k b a)) (λ k. omega arith))
+
+  runs-off : (g i : ℕ) → g < 512 * c → InRun p g i → i % 512 ≢ 0
+  runs-off g i l r = mid-off p i (page-mid g i l r)
+
+  -- between a page and a page of the next chunk lies a page 0
+  runs-inside : (g i : ℕ) → g < 512 * c → InRun p g i → i / 512 ≡ g / 512
+  runs-inside g i l r =
+      let a = r .low in let b = r .high in
+      by-cases (ℕ-discrete (i / 512) (g / 512)) (λ e. e)
+      (λ e. absurd (runs-off g (512 * (i / 512)) l (record { low = omega arith; high = omega arith }) (omega arith)))
+
+  home-class : (g w : ℕ) → 0xC0000000 ≤ w → (h : Home (kindAt p) 0 g w) (k : Kind) → kindAt p (h .first) ≡ k → step [] k ≡ some (h .words)
+      → (b : ℕ) × (kindAt p (h .first) ≡ class b) × (w ≡ 0xC0000000 + 65536 * (g - h .first) + b) × (g < h .first + suc (behind b))
+  home-class g w l h edge e x = let n : 0 ≡ length (h .words) = ap length (Option·some-injective _ _ x) in let f = h .fits in absurd (omega arith)
+  home-class g w l h free e x = let n : 0 ≡ length (h .words) = ap length (Option·some-injective _ _ x) in let f = h .fits in absurd (omega arith)
+  home-class g w l h damaged e x = absurd (Option·none-ne-some _ x)
+  home-class g w l h (large k) e x =
+      let v : w ≡ 0 = h .word ∙ ap (λ (l : List ℕ). getD l (g - suc (h .first)) 0) (sym (Option·some-injective _ _ x)) ∙ getD-zeros k (g - suc (h .first)) in
+      absurd (omega arith)
+  home-class g w l h (class b) e x =
+      let f = h .fits in let n = h .below in
+      let m : behind b ≡ length (h .words) = sym (length-inner b 1 (behind b)) ∙ ap length (Option·some-injective _ _ x) in
+      let v : w ≡ 0xC0000000 + 65536 * (1 + (g - suc (h .first))) + b =
+            h .word ∙ ap (λ (l : List ℕ). getD l (g - suc (h .first)) 0) (sym (Option·some-injective _ _ x))
+            ∙ getD-inner b 1 (behind b) (g - suc (h .first)) (omega arith) in
+      (b, e, omega arith, omega arith)
+  home-class g w l h (inner v) e x = absurd (Option·none-ne-some _ x)
+
+  inner-at : (g w : ℕ) → g < 512 * c → getD (p .words) g 0 ≡ w → 0xC0000000 ≤ w → kindAt p g ≡ inner w
+  unfolding kindAt
+  inner-at g w l e h =
+      let n = walk-right (kindAt p) (512 * c) [] 0 steps g (omega arith) (omega arith) in
+      ap (kindOf (isEdge g) (isSet (p .bits) g)) e ∙ high-kind (isEdge g) (isSet (p .bits) g) w h
+      (λ x. n (ap (kindOf (isEdge g) (isSet (p .bits) g)) e ∙ x))
+
+  runs-back : (g k b : ℕ) → g < 512 * c → b < 65536 → getD (p .words) g 0 ≡ 0xC0000000 + 65536 * k + b
+      → (k ≤ g) × (kindAt p (g - k) ≡ class b) × InRun p (g - k) g
+  runs-back g k b l m e =
+      let w : ℕ = 0xC0000000 + 65536 * k + b in
+      ⊎-elim (λ x. absurd (omega (arith, x .0)))
+      (λ (h : Home (kindAt p) 0 g (0xC0000000 + 65536 * k + b)).
+        let (a, q, v, u) = home-class g (0xC0000000 + 65536 * k + b) (omega arith) h (kindAt p (h .first)) refl (h .begins) in
+        let n = h .below in
+        let low = class-at-low p (h .first) a q in
+        let r : h .first ≡ g - k = omega arith in
+        let z : a ≡ b = omega arith in
+        let kind : kindAt p (g - k) ≡ class b = ap (kindAt p) (sym r) ∙ q ∙ ap class z in
+        let span : spanOf (kindAt p (g - k)) ≡ suc (behind a) = ap spanOf kind ∙ ap (λ (x : ℕ). suc (behind x)) (sym z) in
+        (omega arith, kind, record { low = omega arith; high = omega arith }))
+      (walk-home (kindAt p) (512 * c) [] 0 g (0xC0000000 + 65536 * k + b) steps (omega arith) (omega arith)
+        (inner-at g (0xC0000000 + 65536 * k + b) l e (omega arith)))
+
+  pub sound-runs : Runs c p
+  sound-runs = record { apart = runs-apart; inside = runs-inside; off = runs-off; back = runs-back }

@@ -1,0 +1,48 @@
+-- Refusals 1 and 2, what a call leaves, and the fresh call (document 01, "Refusal numbers", "Taking and giving back").
+-- Assumes nothing.
+use mathlib.Core.Bool.{Bool, true, false, cond, _&&_}
+use mathlib.Core.List.{List, [], _∷_, _++_}
+use Prim.Native.Nat.{ℕ, zero, suc, _*_}
+use lib.Dec.{eqb, leb}
+use lib.ListN.{length}
+use Rattle.records.specs.Kinds.{zeros}
+use Rattle.records.specs.Pool.{Pool, pool}
+use Rattle.records.specs.Sound.{sound}
+
+-- there is such a pool: c from 1 to 16, and page bits, page words and slot bits of just c parts
+unfoldable pub shaped : ℕ → ℕ → ℕ → ℕ → Bool
+shaped c nbits nwords nslots =
+    leb 1 c && (leb c 16 && (eqb nbits (8 * c) && (eqb nwords (512 * c) && eqb nslots (4096 * c))))
+
+abbrev pub fit : ℕ → Pool → Bool
+fit c p = shaped c (length (p .bits)) (length (p .words)) (length (p .slots))
+
+-- refusal 1, else 2, else 0: what each call on an existing pool checks first
+unfoldable pub admitOf : ℕ → Pool → ℕ
+admitOf c p = cond (fit c p) (cond (sound c p) 0 2) 1
+
+-- the work of a call, unless it is refused
+abbrev pub unless : {A : Type 0} → ℕ → (ℕ → A) → A → A
+unless zero refuse work = work
+unless (suc n) refuse work = refuse (suc n)
+
+-- what a call answers, and the pool as it leaves it
+pub record Left (A : Type 0) : Type 0 where
+  pub answer : A
+  pub left : Pool
+
+abbrev pub leaves : {A : Type 0} → A → Pool → Left A
+leaves a p = record { answer = a; left = p }
+
+-- c chunks alike
+unfoldable pub repeat : ℕ → List ℕ → List ℕ
+repeat zero l = []
+repeat (suc c) l = l ++ repeat c l
+
+-- fresh records: of each chunk only page 0 is taken
+unfoldable pub freshPool : ℕ → Pool
+freshPool c = pool (repeat c (1 ∷ zeros 7)) (repeat c (0x40000001 ∷ zeros 511)) (zeros (4096 * c))
+
+-- fresh: refusal 1 or 0
+unfoldable pub freshOf : ℕ → Pool → Left ℕ
+freshOf c p = cond (fit c p) (leaves 0 (freshPool c)) (leaves 1 p)

@@ -1,0 +1,5 @@
+pub mod Kinds
+pub mod Pool
+pub mod Sound
+pub mod Calls
+pub mod Runs

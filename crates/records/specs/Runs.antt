@@ -1,0 +1,41 @@
+-- What sound records promise of their runs. Assumes nothing.
+use mathlib.Core.Path.{_≡_}
+use mathlib.Core.Logic.{_≢_}
+use mathlib.Core.Bool.{true}
+use Prim.Native.Nat.{ℕ, zero, suc, _+_, _-_, _*_, _/_, _%_, _≤_, _<_}
+use lib.ListN.{getD}
+use Rattle.classes.specs.Classes.{pages}
+use Rattle.records.specs.Kinds.{Kind, edge, free, damaged, large, class, inner, behind}
+use Rattle.records.specs.Pool.{Pool, kindAt}
+use Rattle.records.specs.Sound.{sound}
+use Rattle.records.specs.Calls.{freshPool}
+
+-- the pages of the run that starts at a page; none where no run starts
+abbrev pub spanOf : Kind → ℕ
+spanOf edge = 0
+spanOf free = 0
+spanOf damaged = 0
+spanOf (large k) = suc k
+spanOf (class b) = suc (behind b)
+spanOf (inner w) = 0
+
+-- page i is a page of the run that starts at page g
+pub record InRun (p : Pool) (g i : ℕ) : Type 0 where
+  pub low : g ≤ i
+  pub high : i < g + spanOf (kindAt p g)
+
+pub record Runs (c : ℕ) (p : Pool) : Type 0 where
+  -- no page belongs to two runs
+  pub apart : (f g i : ℕ) → f < 512 * c → g < 512 * c → InRun p f i → InRun p g i → f ≡ g
+  -- a run stays in the chunk in which it starts
+  pub inside : (g i : ℕ) → g < 512 * c → InRun p g i → i / 512 ≡ g / 512
+  -- and touches no page 0
+  pub off : (g i : ℕ) → g < 512 * c → InRun p g i → i % 512 ≢ 0
+  -- the word of a class run's page at offset k says where the run starts: k pages before
+  pub back : (g k b : ℕ) → g < 512 * c → b < 65536 → getD (p .words) g 0 ≡ 0xC0000000 + 65536 * k + b
+      → (k ≤ g) × (kindAt p (g - k) ≡ class b) × InRun p (g - k) g
+
+-- The claim: sound records have such runs, and a fresh pool of any number of chunks is sound
+pub record SoundRecords : Type 0 where
+  pub runs : (c : ℕ) (p : Pool) → sound c p ≡ true → Runs c p
+  pub fresh : (c : ℕ) → sound c (freshPool c) ≡ true
