@@ -1,8 +1,8 @@
 -- The 30 size classes (document 01, "Numbers of the pool") and the class that serves a request.
 -- Assumes nothing.
-use mathlib.Core.Bool.{Bool, true, false, cond}
+use mathlib.Core.Bool.{cond}
 use mathlib.Core.List.{List, [], _∷_}
-use Prim.Native.Nat.{ℕ, zero, suc, _-_}
+use Prim.Native.Nat.{ℕ, suc, _*_, _≤_, _<_}
 use lib.Dec.{leb}
 use lib.ListN.{getD}
 use Rattle.classes.specs.declared.Row.{Row}
@@ -45,17 +45,17 @@ rows =
     rowOf 3072 4 3 ∷
     []
 
--- the row of class b; nothing where there is no such class
+-- the row of class b: all zero where there is no such class
 unfoldable pub rowAt : ℕ → Row
 rowAt b = getD rows b (rowOf 0 0 0)
 
-unfoldable pub size : ℕ → ℕ
+abbrev pub size : ℕ → ℕ
 size b = rowAt b .size
 
-unfoldable pub slots : ℕ → ℕ
+abbrev pub slots : ℕ → ℕ
 slots b = rowAt b .slots
 
-unfoldable pub pages : ℕ → ℕ
+abbrev pub pages : ℕ → ℕ
 pages b = rowAt b .pages
 
 -- the first class of these rows, counted from b, whose slots hold n bytes
@@ -66,3 +66,20 @@ firstHolding (r ∷ rs) b n = let later = firstHolding rs (suc b) n in cond (leb
 -- the smallest class that holds n bytes (30 where none does)
 unfoldable pub classFor : ℕ → ℕ
 classFor n = firstHolding rows 0 n
+
+-- what each row keeps to: the pages of a run hold its slots, and not one slot more; and the bounds that the records rely on
+pub record RowFacts (r : Row) : Type 0 where
+  pub fit : r .slots * r .size ≤ 4096 * r .pages
+  pub full : 4096 * r .pages < suc (r .slots) * r .size
+  pub slots-least : 1 ≤ r .slots
+  pub slots-most : r .slots ≤ 512
+  pub pages-least : 1 ≤ r .pages
+  pub pages-most : r .pages ≤ 7
+  pub size-least : 8 ≤ r .size
+  pub size-most : r .size ≤ 3072
+
+-- class b is the smallest that holds n bytes
+pub record Smallest (n b : ℕ) : Type 0 where
+  pub class : b < 30
+  pub holds : n ≤ size b
+  pub smaller : (a : ℕ) → a < b → size a < n

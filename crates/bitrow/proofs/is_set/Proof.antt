@@ -1,24 +1,20 @@
+-- `bitrow::is_set` meets its contract: the code reads as the definition.
+-- Assumes nothing.
 use mathlib.Core.Path.{refl}
-use Rattle.bitrow.specs.Row.{isSet, bitAt, bit}
+use Rattle.bitrow.specs.Row.{bit, bitAt, isSet}
 use borrow.Author.Needs.{needs}
 use Rattle.bitrow.proofs.is_set.Statement.{statement}
 use Rattle.bitrow.proofs.is_set.Tie as tie
-use Rattle.bitrow.proofs.is_set.Reads as reads
-use Rattle.bitrow.proofs.is_set.Lts as lts
 
--- src/lib.rt:12:6
 mul-result : tie.Need-mul-result
 mul-result c = search needs
 
--- src/lib.rt:12:6
 shared-slice-read-result : tie.Need-shared-slice-read-result
 shared-slice-read-result c = search needs
 
--- src/lib.rt:12:6
 shr-result : tie.Need-shr-result
 shr-result c = search needs
 
--- src/lib.rt:8:1
 returns : tie.Need-returns
 unfolding isSet bitAt bit
 returns c = refl

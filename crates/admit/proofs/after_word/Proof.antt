@@ -1,0 +1,18 @@
+use Rattle.admit.proofs.Steps.{after-zero, after-more}
+use borrow.Author.Needs.{needs}
+use Rattle.admit.proofs.after_word.Statement.{statement}
+use Rattle.admit.proofs.after_word.Tie as tie
+use Rattle.admit.proofs.after_word.Reads as reads
+use Rattle.admit.proofs.after_word.Lts as lts
+
+returns : tie.Need-returns
+returns c = after-zero _ (c .if1 .taken)
+
+add-result : tie.Need-add-result
+add-result c = search needs
+
+returns-2 : tie.Need-returns-2
+returns-2 c = after-more _ (c .if1 .left)
+
+pub after-word-spec : {M : Type 1} → statement M
+after-word-spec = tie.close (tie.spec returns add-result returns-2)

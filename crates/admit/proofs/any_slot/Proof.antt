@@ -1,0 +1,63 @@
+use borrow.Author.Needs.{needs}
+use mathlib.Core.Path.{_≡_, _∙_, sym, ap, refl}
+use mathlib.Core.Bool.{Bool, true, false, false≢true}
+use Prim.Native.Nat.{ℕ, _≤_, _<_, _-_, _*_, _+_, _^_, _%_}
+use native.Mathlib.Omega.{arith}
+use lib.Dec.{eqb}
+use lib.ListN.{length, getD}
+use Rattle.records.specs.Sound.{all}
+use Rattle.admit.specs.Sweep.{wordClear, slotsClear}
+use Rattle.admit.proofs.Clear.{all-none, any-turn, slots-done}
+use Rattle.admit.proofs.any_slot.Statement.{statement}
+use Rattle.admit.proofs.any_slot.Tie as tie
+use Rattle.admit.proofs.any_slot.Reads as reads
+use Rattle.admit.proofs.any_slot.Lts as lts
+
+abbrev Inv-loop : tie.InvT-loop
+Inv-loop slots g i acc₀ j₀ acc j = (j ≤ 8) × (i ≡ 8 * g) × (eqb acc 0 ≡ all j (wordClear slots g 0))
+
+abbrev μ-loop : tie.MeasureT-loop
+μ-loop slots g i acc₀ j₀ acc j = 8 - j
+
+mul-i : tie.Need-mul-i Inv-loop μ-loop
+mul-i c = search needs
+
+loop-holds : tie.Need-loop-holds Inv-loop μ-loop
+loop-holds c = (omega arith, refl, all-none _)
+
+add-acc : tie.Need-add-acc Inv-loop μ-loop
+add-acc c = search needs
+
+mul-acc : tie.Need-mul-acc Inv-loop μ-loop
+mul-acc c = search needs
+
+shared-slice-read-acc : tie.Need-shared-slice-read-acc Inv-loop μ-loop
+shared-slice-read-acc c = search needs
+
+add-j : tie.Need-add-j Inv-loop μ-loop
+add-j c = search needs
+
+loop-less : tie.Need-loop-less Inv-loop μ-loop
+loop-less c = search needs
+
+loop-again : tie.Need-loop-again Inv-loop μ-loop
+loop-again c = let v = c .before .before .loop in (omega arith, v .inv .1, any-turn _ _ _ _ (v .acc) (v .inv .1) (v .inv .2))
+
+returns : tie.Need-returns Inv-loop μ-loop
+returns c = let v = c .before .loop in slots-done _ _ _ (v .j) (v .acc) (omega arith) (omega arith) (v .inv .2)
+
+pub any-slot-spec : {M : Type 1} → statement M
+any-slot-spec =
+    tie.close
+    (tie.spec
+    Inv-loop
+    μ-loop
+    mul-i
+    loop-holds
+    add-acc
+    mul-acc
+    shared-slice-read-acc
+    add-j
+    loop-less
+    loop-again
+    returns)

@@ -1,0 +1,73 @@
+use mathlib.Core.Path.{_≡_, _∙_, sym, ap, refl}
+use Prim.Native.Nat.{ℕ, _≤_, _<_, _-_, _*_, _+_}
+use native.Mathlib.Omega.{arith}
+use borrow.Author.Needs.{needs}
+use lib.ListN.{length, getD}
+use Rattle.admit.specs.Sweep.{Behinds}
+use Rattle.admit.proofs.Clear.{row-some, BehindUp, up-start, up-on, up-done}
+use Rattle.admit.proofs.behind_table.Statement.{statement}
+use Rattle.admit.proofs.behind_table.Tie as tie
+use Rattle.admit.proofs.behind_table.Reads as reads
+use Rattle.admit.proofs.behind_table.Lts as lts
+use Rattle.classes.proofs.class_rows.Reads as class-rows-reads
+
+abbrev Inv-loop : tie.InvT-loop
+Inv-loop rows out₀ k₀ out k = (k ≤ 30) × (BehindUp out k)
+
+abbrev μ-loop : tie.MeasureT-loop
+μ-loop rows out₀ k₀ out k = 30 - k
+
+class-rows-requires : tie.Need-class-rows-requires Inv-loop μ-loop
+class-rows-requires c κs = search needs
+
+loop-holds : tie.Need-loop-holds Inv-loop μ-loop
+loop-holds c = (omega arith, up-start _ refl)
+
+mul-r : tie.Need-mul-r Inv-loop μ-loop
+mul-r c = search needs
+
+array-copy-out-r : tie.Need-array-copy-out-r Inv-loop μ-loop
+array-copy-out-r c = search needs
+
+sub-out : tie.Need-sub-out Inv-loop μ-loop
+sub-out c = row-some _ _ _ (c .before .before .before .before .class-rows .ensures) (omega arith) refl
+
+cast-out : tie.Need-cast-out Inv-loop μ-loop
+cast-out c = search needs
+
+mul-out : tie.Need-mul-out Inv-loop μ-loop
+mul-out c = search needs
+
+array-write-out : tie.Need-array-write-out Inv-loop μ-loop
+array-write-out c = search needs
+
+add-k : tie.Need-add-k Inv-loop μ-loop
+add-k c = search needs
+
+loop-less : tie.Need-loop-less Inv-loop μ-loop
+loop-less c = search needs
+
+loop-again : tie.Need-loop-again Inv-loop μ-loop
+loop-again c = (omega arith, up-on _ _ _ _ (c .before .before .before .before .class-rows .ensures) refl (omega arith) (c .before .before .before .loop .inv .1))
+
+returns : tie.Need-returns Inv-loop μ-loop
+returns c = up-done (c .before .loop .inv .1) (omega arith)
+
+pub behind-table-spec : {M : Type 1} → statement M
+behind-table-spec =
+    tie.close
+    (tie.spec
+    Inv-loop
+    μ-loop
+    class-rows-requires
+    loop-holds
+    mul-r
+    array-copy-out-r
+    sub-out
+    cast-out
+    mul-out
+    array-write-out
+    add-k
+    loop-less
+    loop-again
+    returns)

@@ -1,0 +1,24 @@
+use borrow.Author.Needs.{needs}
+use mathlib.Core.Path.{_≡_, _∙_, sym, ap, refl}
+use mathlib.Core.Bool.{Bool, true, false, false≢true}
+use Prim.Native.Nat.{ℕ, _≤_, _<_, _-_, _*_, _+_, _^_, _%_}
+use native.Mathlib.Omega.{arith}
+use lib.Dec.{eqb}
+use lib.ListN.{length, getD}
+use borrow.Author.Tests.{eqb-true, eqb-false}
+use Rattle.admit.proofs.edge_ok.Statement.{statement}
+use Rattle.admit.proofs.edge_ok.Tie as tie
+use Rattle.admit.proofs.edge_ok.Reads as reads
+use Rattle.admit.proofs.edge_ok.Lts as lts
+
+returns : tie.Need-returns
+returns c = (λ e z. absurd (omega arith), λ e. absurd (false≢true (sym e)))
+
+returns-2 : tie.Need-returns-2
+returns-2 c = (λ e z. absurd (false≢true e), λ e. (omega arith, λ l w. omega arith))
+
+returns-3 : tie.Need-returns-3
+returns-3 c = (λ e z. (omega arith, eqb-true _ _ e), λ e. (omega arith, λ l w. eqb-false _ _ e w))
+
+pub edge-ok-spec : {M : Type 1} → statement M
+edge-ok-spec = tie.close (tie.spec returns returns-2 returns-3)

@@ -1,0 +1,71 @@
+use Rattle.records.specs.Pool.{pool}
+use mathlib.Core.Path.{_≡_, _∙_, sym, ap, refl}
+use Prim.Native.Nat.{ℕ, _≤_, _<_, _-_, _*_, _+_}
+use native.Mathlib.Omega.{arith}
+use borrow.Author.Needs.{needs}
+use Rattle.admit.specs.Sweep.{Swept}
+use Rattle.admit.proofs.Sweeps.{Freed, freed-start, freed-on, freed-done}
+use Rattle.admit.proofs.free_block.Statement.{statement}
+use Rattle.admit.proofs.free_block.Tie as tie
+use Rattle.admit.proofs.free_block.Reads as reads
+use Rattle.admit.proofs.free_block.Lts as lts
+use Rattle.admit.proofs.any_slot.Reads as any-slot-reads
+use Rattle.admit.proofs.wide.Reads as wide-reads
+
+abbrev Inv-loop : tie.InvT-loop
+Inv-loop bits words slots i acc₀ p₀ acc p = (p ≤ 64) × (Freed (pool bits words slots) i p acc)
+
+abbrev μ-loop : tie.MeasureT-loop
+μ-loop bits words slots i acc₀ p₀ acc p = 64 - p
+
+loop-holds : tie.Need-loop-holds Inv-loop μ-loop
+loop-holds c = (omega arith, freed-start _ _)
+
+mul-g : tie.Need-mul-g Inv-loop μ-loop
+mul-g c = search needs
+
+add-g : tie.Need-add-g Inv-loop μ-loop
+add-g c = search needs
+
+any-slot-requires : tie.Need-any-slot-requires Inv-loop μ-loop
+any-slot-requires c κs = search needs
+
+mul-wide : tie.Need-mul-wide Inv-loop μ-loop
+mul-wide c = search needs
+
+shared-slice-read-wide : tie.Need-shared-slice-read-wide Inv-loop μ-loop
+shared-slice-read-wide c = search needs
+
+wide-requires : tie.Need-wide-requires Inv-loop μ-loop
+wide-requires c κs = search needs
+
+add-p : tie.Need-add-p Inv-loop μ-loop
+add-p c = search needs
+
+loop-less : tie.Need-loop-less Inv-loop μ-loop
+loop-less c = search needs
+
+loop-again : tie.Need-loop-again Inv-loop μ-loop
+loop-again c =
+    (omega arith, freed-on _ _ _ (omega arith) (c .before .before .before .before .before .before .before .before .pre .1) (c .before .before .before .before .before .before .before .before .pre .2) (λ j. c .before .before .before .before .before .shared-slice-known3 .given j .fits) _ (c .before .before .any-slot .result) _ (c .before .before .before .before .loop .inv .1) (c .before .before .any-slot .ensures) (c .wide .ensures))
+
+returns : tie.Need-returns Inv-loop μ-loop
+returns c = freed-done (c .before .loop .inv .1) (omega arith)
+
+pub free-block-spec : {M : Type 1} → statement M
+free-block-spec =
+    tie.close
+    (tie.spec
+    Inv-loop
+    μ-loop
+    loop-holds
+    mul-g
+    add-g
+    any-slot-requires
+    mul-wide
+    shared-slice-read-wide
+    wide-requires
+    add-p
+    loop-less
+    loop-again
+    returns)

@@ -1,0 +1,126 @@
+use mathlib.Core.Path.{_≡_, _∙_, sym, ap, refl}
+use mathlib.Core.Bool.{Bool, true, false}
+use Prim.Native.Nat.{ℕ, _≤_, _<_, _-_, _*_, _+_}
+use native.Mathlib.Omega.{arith}
+use borrow.Author.Tests.{not-true, not-false}
+use Rattle.admit.specs.Sweep.{Ready, Paged}
+use Rattle.admit.proofs.Steps.{bit-is, no-free-run, no-free-word, no-inner, no-class, no-low, no-large, is-free, is-inner, is-class, is-large}
+use borrow.Author.Needs.{needs}
+use Rattle.admit.proofs.page.Statement.{statement}
+use Rattle.admit.proofs.page.Tie as tie
+use Rattle.admit.proofs.page.Reads as reads
+use Rattle.admit.proofs.page.Lts as lts
+use Rattle.admit.proofs.after_word.Reads as after-word-reads
+use Rattle.admit.proofs.any_slot.Reads as any-slot-reads
+use Rattle.admit.proofs.stray_slot.Reads as stray-slot-reads
+use Rattle.admit.proofs.wrong.Reads as wrong-reads
+
+wrong-requires : tie.Need-wrong-requires
+wrong-requires c κs = search needs
+
+returns : tie.Need-returns
+returns c = bit-is (not-true _ (c .before .if2 .taken)) (no-free-run _ _ _ _ _ _ _ _ _ (c .wrong .ensures) (c .before .before .if1 .taken))
+
+wrong-requires-2 : tie.Need-wrong-requires-2
+wrong-requires-2 c κs = search needs
+
+returns-2 : tie.Need-returns-2
+returns-2 c = bit-is (not-false _ (c .before .before .if2 .left)) (no-inner _ _ _ _ _ _ _ _ _ (c .wrong2 .ensures) (c .before .before .before .if1 .taken) (c .before .if3 .taken))
+
+any-slot-requires : tie.Need-any-slot-requires
+any-slot-requires c κs = search needs
+
+after-word-requires : tie.Need-after-word-requires
+after-word-requires c κs = search needs
+
+sub-t18 : tie.Need-sub-t18
+sub-t18 c = search needs
+
+returns-3 : tie.Need-returns-3
+returns-3 c = bit-is (not-false _ (c .before .before .before .if2 .left)) (is-inner _ _ _ _ _ _ _ (c .before .before .before .before .before .before .pre .4) (c .before .before .before .before .if1 .taken) (c .before .before .if3 .left) (c .before .any-slot .ensures) (c .after-word .ensures))
+
+wrong-requires-3 : tie.Need-wrong-requires-3
+wrong-requires-3 c κs = search needs
+
+returns-4 : tie.Need-returns-4
+returns-4 c = bit-is (not-true _ (c .before .before .if4 .taken)) (no-free-word _ _ _ _ _ _ _ _ _ (c .wrong3 .ensures) (c .before .before .before .if1 .left) (c .before .if5 .taken))
+
+any-slot-requires-2 : tie.Need-any-slot-requires-2
+any-slot-requires-2 c κs = search needs
+
+returns-5 : tie.Need-returns-5
+returns-5 c = bit-is (not-true _ (c .before .before .if4 .taken)) (is-free _ _ _ _ _ _ (c .before .before .before .if1 .left) (c .before .if5 .left) (c .any-slot2 .ensures))
+
+cast-b : tie.Need-cast-b
+cast-b c = search needs
+
+stray-slot-requires : tie.Need-stray-slot-requires
+stray-slot-requires c κs = search needs
+
+mul-n : tie.Need-mul-n
+mul-n c = search needs
+
+element-copy-out-n : tie.Need-element-copy-out-n
+element-copy-out-n c = search needs
+
+add-t21 : tie.Need-add-t21
+add-t21 c = search needs
+
+returns-6 : tie.Need-returns-6
+returns-6 c =
+    bit-is (not-false _ (c .before .before .before .before .if4 .left)) (is-class _ _ _ _ _ _ _ (c .before .before .before .before .before .if1 .left) (c .before .before .before .if6 .taken) (c .before .before .if7 .taken) (c .before .before .before .before .before .before .before .pre .3 .at _ (omega arith)) (c .before .stray-slot .ensures))
+
+wrong-requires-4 : tie.Need-wrong-requires-4
+wrong-requires-4 c κs = search needs
+
+returns-7 : tie.Need-returns-7
+returns-7 c = bit-is (not-false _ (c .before .before .before .if4 .left)) (no-class _ _ _ _ _ _ _ _ _ (c .wrong4 .ensures) (c .before .before .before .before .if1 .left) (c .before .if7 .left))
+
+wrong-requires-5 : tie.Need-wrong-requires-5
+wrong-requires-5 c κs = search needs
+
+returns-8 : tie.Need-returns-8
+returns-8 c = bit-is (not-false _ (c .before .before .before .if4 .left)) (no-low _ _ _ _ _ _ _ _ _ (c .wrong5 .ensures) (c .before .before .before .before .if1 .left) (c .before .if8 .taken))
+
+any-slot-requires-3 : tie.Need-any-slot-requires-3
+any-slot-requires-3 c κs = search needs
+
+returns-9 : tie.Need-returns-9
+returns-9 c = bit-is (not-false _ (c .before .before .before .before .if4 .left)) (is-large _ _ _ _ _ _ (c .before .before .before .before .before .if1 .left) (c .before .before .if8 .left) (c .before .if9 .taken) (c .any-slot3 .ensures))
+
+wrong-requires-6 : tie.Need-wrong-requires-6
+wrong-requires-6 c κs = search needs
+
+returns-10 : tie.Need-returns-10
+returns-10 c = bit-is (not-false _ (c .before .before .before .before .if4 .left)) (no-large _ _ _ _ _ _ _ _ _ (c .wrong6 .ensures) (c .before .before .before .before .before .if1 .left) (c .before .if9 .left) (c .before .before .before .if6 .left))
+
+pub page-spec : {M : Type 1} → statement M
+page-spec =
+    tie.close
+    (tie.spec
+    wrong-requires
+    returns
+    wrong-requires-2
+    returns-2
+    any-slot-requires
+    after-word-requires
+    sub-t18
+    returns-3
+    wrong-requires-3
+    returns-4
+    any-slot-requires-2
+    returns-5
+    cast-b
+    stray-slot-requires
+    mul-n
+    element-copy-out-n
+    add-t21
+    returns-6
+    wrong-requires-4
+    returns-7
+    wrong-requires-5
+    returns-8
+    any-slot-requires-3
+    returns-9
+    wrong-requires-6
+    returns-10)

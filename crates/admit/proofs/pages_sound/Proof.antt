@@ -1,0 +1,67 @@
+use Rattle.records.specs.Pool.{pool}
+use mathlib.Core.Path.{_≡_, _∙_, sym, ap, refl}
+use mathlib.Core.Bool.{Bool, true, false}
+use mathlib.Core.List.{[]}
+use Prim.Native.Nat.{ℕ, _≤_, _<_, _-_, _*_, _+_, _%_}
+use native.Mathlib.Omega.{arith}
+use borrow.Author.Needs.{needs}
+use borrow.Author.Tests.{not-true, not-false}
+use Rattle.admit.specs.Sweep.{Ready, Swept}
+use Rattle.admit.proofs.Sweeps.{Blocks, blocks-start, blocks-on, blocks-off, blocks-done}
+use Rattle.admit.proofs.pages_sound.Statement.{statement}
+use Rattle.admit.proofs.pages_sound.Tie as tie
+use Rattle.admit.proofs.pages_sound.Reads as reads
+use Rattle.admit.proofs.pages_sound.Lts as lts
+use Rattle.admit.proofs.behind_table.Reads as behind-table-reads
+use Rattle.admit.proofs.block.Reads as block-reads
+use Rattle.admit.proofs.masks.mask_table.Reads as mask-table-reads
+
+abbrev Inv-loop : tie.InvT-loop
+Inv-loop bits words slots n masks behinds left₀ due₀ i₀ left due i = (i ≤ n) × (Blocks (pool bits words slots) n i left due)
+
+abbrev μ-loop : tie.MeasureT-loop
+μ-loop bits words slots n masks behinds left₀ due₀ i₀ left due i = n - i
+
+mask-table-requires : tie.Need-mask-table-requires Inv-loop μ-loop
+mask-table-requires c κs = search needs
+
+behind-table-requires : tie.Need-behind-table-requires Inv-loop μ-loop
+behind-table-requires c κs = search needs
+
+loop-holds : tie.Need-loop-holds Inv-loop μ-loop
+loop-holds c = (omega arith, blocks-start _ _)
+
+block-requires : tie.Need-block-requires Inv-loop μ-loop
+block-requires c κs =
+    (omega arith, omega arith, omega arith, omega arith, c .before .before .before .before .before .mask-table .ensures, c .before .before .before .before .behind-table .ensures, c .before .before .before .loop .inv .1 .ready)
+
+returns : tie.Need-returns Inv-loop μ-loop
+returns c = blocks-off (c .before .before .before .before .before .before .loop .inv .1) (omega arith) (c .before .before .block .ensures) (not-true _ (c .if1 .taken))
+
+add-i : tie.Need-add-i Inv-loop μ-loop
+add-i c = search needs
+
+loop-less : tie.Need-loop-less Inv-loop μ-loop
+loop-less c = search needs
+
+loop-again : tie.Need-loop-again Inv-loop μ-loop
+loop-again c = (omega arith, blocks-on (c .before .before .before .before .before .before .loop .inv .1) (omega arith) (c .before .before .block .ensures) (not-false _ (c .if1 .left)))
+
+returns-2 : tie.Need-returns-2 Inv-loop μ-loop
+returns-2 c = blocks-done (c .before .loop .inv .1) (omega arith)
+
+pub pages-sound-spec : {M : Type 1} → statement M
+pages-sound-spec =
+    tie.close
+    (tie.spec
+    Inv-loop
+    μ-loop
+    mask-table-requires
+    behind-table-requires
+    loop-holds
+    block-requires
+    returns
+    add-i
+    loop-less
+    loop-again
+    returns-2)

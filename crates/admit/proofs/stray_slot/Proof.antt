@@ -1,0 +1,80 @@
+use borrow.Author.Needs.{needs}
+use mathlib.Core.Path.{_≡_, _∙_, sym, ap, refl}
+use mathlib.Core.Bool.{Bool, true, false, false≢true}
+use Prim.Native.Nat.{ℕ, _≤_, _<_, _-_, _*_, _+_, _^_, _%_}
+use native.Mathlib.Omega.{arith}
+use lib.Dec.{eqb}
+use lib.ListN.{length, getD}
+use Rattle.classes.specs.Classes.{slots}
+use Rattle.records.specs.Sound.{all}
+use Rattle.admit.specs.Sweep.{wordClear, slotsClear}
+use Rattle.admit.proofs.Clear.{all-none, stray-turn, slots-done}
+use Rattle.admit.proofs.stray_slot.Statement.{statement}
+use Rattle.admit.proofs.stray_slot.Tie as tie
+use Rattle.admit.proofs.stray_slot.Reads as reads
+use Rattle.admit.proofs.stray_slot.Lts as lts
+
+abbrev Inv-loop : tie.InvT-loop
+Inv-loop ss g masks b i m acc₀ j₀ acc j = (j ≤ 8) × (i ≡ 8 * g) × (m ≡ 8 * b) × (eqb acc 0 ≡ all j (wordClear ss g (slots b)))
+
+abbrev μ-loop : tie.MeasureT-loop
+μ-loop ss g masks b i m acc₀ j₀ acc j = 8 - j
+
+mul-i : tie.Need-mul-i Inv-loop μ-loop
+mul-i c = search needs
+
+mul-m : tie.Need-mul-m Inv-loop μ-loop
+mul-m c = search needs
+
+loop-holds : tie.Need-loop-holds Inv-loop μ-loop
+loop-holds c = (omega arith, refl, refl, all-none _)
+
+add-acc : tie.Need-add-acc Inv-loop μ-loop
+add-acc c = search needs
+
+mul-acc : tie.Need-mul-acc Inv-loop μ-loop
+mul-acc c = search needs
+
+shared-slice-read-acc : tie.Need-shared-slice-read-acc Inv-loop μ-loop
+shared-slice-read-acc c = search needs
+
+add-acc-2 : tie.Need-add-acc-2 Inv-loop μ-loop
+add-acc-2 c = search needs
+
+mul-acc-2 : tie.Need-mul-acc-2 Inv-loop μ-loop
+mul-acc-2 c = search needs
+
+element-copy-out-acc : tie.Need-element-copy-out-acc Inv-loop μ-loop
+element-copy-out-acc c = search needs
+
+add-j : tie.Need-add-j Inv-loop μ-loop
+add-j c = search needs
+
+loop-less : tie.Need-loop-less Inv-loop μ-loop
+loop-less c = search needs
+
+loop-again : tie.Need-loop-again Inv-loop μ-loop
+loop-again c = let v = c .before .before .before .loop in (omega arith, v .inv .1, v .inv .2, stray-turn _ _ _ _ _ _ _ (v .acc) (v .inv .1) (v .inv .2) (c .before .before .before .before .pre .3) (c .before .before .before .before .pre .2) (omega arith) (c .before .shared-slice-known .given _ .fits) (v .inv .3))
+
+returns : tie.Need-returns Inv-loop μ-loop
+returns c = let v = c .before .loop in slots-done _ _ _ (v .j) (v .acc) (omega arith) (omega arith) (v .inv .3)
+
+pub stray-slot-spec : {M : Type 1} → statement M
+stray-slot-spec =
+    tie.close
+    (tie.spec
+    Inv-loop
+    μ-loop
+    mul-i
+    mul-m
+    loop-holds
+    add-acc
+    mul-acc
+    shared-slice-read-acc
+    add-acc-2
+    mul-acc-2
+    element-copy-out-acc
+    add-j
+    loop-less
+    loop-again
+    returns)

@@ -1,0 +1,53 @@
+-- The check's state between pages as two numbers, and what it finds at one page and at 64. Assumes nothing.
+use mathlib.Core.Path.{_≡_}
+use mathlib.Core.Logic.{_≢_}
+use mathlib.Core.Bool.{Bool, true, false, cond}
+use mathlib.Core.List.{List, [], _∷_}
+use mathlib.Core.Option.{Option, none, some}
+use Prim.Native.Nat.{ℕ, zero, suc, _+_, _-_, _*_, _/_, _^_, _<_, _≤_}
+use lib.Dec.{eqb}
+use lib.ListN.{getD}
+use Rattle.records.specs.Kinds.{Kind, kindOf, behind, slotsOf}
+use Rattle.records.specs.Pool.{Pool}
+use Rattle.records.specs.Sound.{all, step, soundFrom}
+
+-- the word of the page behind a page with the word d, inside one run
+unfoldable pub after : ℕ → ℕ
+after d = cond (eqb d 0) 0 (d + 65536)
+
+-- the words of the n pages still to come in a run, of which the next is d
+unfoldable pub coming : ℕ → ℕ → List ℕ
+coming d zero = []
+coming d (suc n) = d ∷ coming (after d) n
+
+-- slot word j of page g has no bit that names none of n slots
+unfoldable pub wordClear : List ℕ → ℕ → ℕ → ℕ → Bool
+wordClear ss g n j = eqb (getD ss (8 * g + j) 0 / 2 ^ (n - 64 * j)) 0
+
+unfoldable pub slotsClear : List ℕ → ℕ → ℕ → Bool
+slotsClear ss g n = all 8 (wordClear ss g n)
+
+-- the pages of a run of each class behind its first
+pub record Behinds (l : List ℕ) : Type 0 where
+  pub at : (k : ℕ) → k < 30 → getD l k 0 ≡ behind k
+
+-- the two numbers are those of a run: its words are inner words, and no sum wraps
+pub record Ready (left due : ℕ) : Type 0 where
+  pub near : due + 65536 * left < 4294967296
+  pub inner : due ≢ 0 → 0xC0000000 ≤ due
+
+-- what a step that is right or not leaves due
+unfoldable pub outcome : Bool → List ℕ → Option (List ℕ)
+outcome true st = some st
+outcome false st = none
+
+-- a page that is not page 0 of its chunk, with the word w and the bit t: whether it goes on, and how; x is 0 when its slot bits are right
+pub record Paged (ss : List ℕ) (g left due w : ℕ) (t ok : Bool) (left′ due′ x : ℕ) : Type 0 where
+  pub moves : outcome ok (coming due′ left′) ≡ step (coming due left) (kindOf false t w)
+  pub strays : ok ≡ true → eqb x 0 ≡ slotsClear ss g (slotsOf (kindOf false t w))
+  pub ready : Ready left′ due′
+
+-- the 64 pages of page-bit word i, whatever comes behind them
+pub record Swept (p : Pool) (i left due : ℕ) (ok : Bool) (left′ due′ : ℕ) : Type 0 where
+  pub says : (m : ℕ) → cond ok (soundFrom p (coming due′ left′) (64 * i + 64) m) false ≡ soundFrom p (coming due left) (64 * i) (64 + m)
+  pub ready : Ready left′ due′

@@ -1,0 +1,97 @@
+-- Laws of the count of a row's 1 bits.
+-- Assumes nothing.
+use mathlib.Core.Path.{_≡_, refl, sym, ap, ap₂, _∙_}
+use mathlib.Core.Logic.{⊎-elim}
+use mathlib.Core.List.{List}
+use Prim.Native.Nat.{ℕ, zero, suc, _+_, _-_, _*_, _/_, _%_, _^_, _≤_, _<_}
+use native.Mathlib.Nat.{zero-add, suc-add, add-zero, add-assoc, div-one, eq-or-lt-of-le}
+use native.Mathlib.Omega.{arith}
+use lib.Bits.{bitAnd, and-high}
+use lib.Count.{ones, onesIn, ones-step, ones-cat}
+use lib.ListN.{getD}
+use lib.Pow.{pow-pos, shr-shr, high-ones}
+use Rattle.bitrow.specs.Row.{bit, bitAt, countBits}
+use Rattle.bitrow.specs.Mask.{maskOf}
+use Rattle.bitrow.proofs.Words.{low-mod, half-mod}
+use Rattle.bitrow.proofs.Rows.{bit-at-le, rest, bit-rest}
+
+pub count-none : (ws : List ℕ) (i n : ℕ) → n ≡ 0 → countBits ws i n ≡ 0
+unfolding countBits
+count-none ws i n e = ap (λ (x : ℕ). countBits ws i x) e
+
+pub count-step : (ws : List ℕ) (i n : ℕ) → 0 < n → countBits ws i n ≡ bitAt ws i + countBits ws (i + 1) (n - 1)
+unfolding countBits
+count-step ws i zero h = absurd (omega arith)
+count-step ws i (suc n) h =
+    let less : n ≡ suc n - 1 = omega arith in
+    ap (λ (x : ℕ). bitAt ws i + countBits ws (i + 1) x) less
+
+-- some places, and then those behind them
+pub count-add : (m : ℕ) (ws : List ℕ) (i n : ℕ) → countBits ws i (m + n) ≡ countBits ws i m + countBits ws (i + m) n
+unfolding countBits
+count-add zero ws i n =
+    ap₂ (λ (x y : ℕ). countBits ws x y) (sym (add-zero i)) (zero-add n) ∙ sym (zero-add (countBits ws (i + 0) n))
+count-add (suc m) ws i n =
+    let next : i + 1 + m ≡ i + suc m = omega arith in
+    ap (λ (x : ℕ). countBits ws i x) (suc-add m n)
+    ∙ ap (λ (x : ℕ). bitAt ws i + x) (count-add m ws (i + 1) n)
+    ∙ sym (add-assoc (bitAt ws i) (countBits ws (i + 1) m) (countBits ws (i + 1 + m) n))
+    ∙ ap (λ (x : ℕ). bitAt ws i + countBits ws (i + 1) m + countBits ws x n) next
+
+pub count-le : (n : ℕ) (ws : List ℕ) (i : ℕ) → countBits ws i n ≤ n
+unfolding countBits
+count-le zero ws i = omega arith
+count-le (suc n) ws i = omega (arith, bit-at-le ws i, count-le n ws (i + 1))
+
+-- ---- the count is 0 where all n bits are 0, and only there
+
+pub all-clear : (n : ℕ) (ws : List ℕ) (i : ℕ) → ((j : ℕ) → i ≤ j → j < i + n → bitAt ws j ≡ 0) → countBits ws i n ≡ 0
+unfolding countBits
+all-clear zero ws i h = refl
+all-clear (suc n) ws i h =
+    ap₂ (λ (x y : ℕ). x + y) (h i (omega arith) (omega arith)) (all-clear n ws (i + 1) (λ j a b. h j (omega arith) (omega arith)))
+
+pub count-clear : (n : ℕ) (ws : List ℕ) (i : ℕ) → countBits ws i n ≡ 0 → (j : ℕ) → i ≤ j → j < i + n → bitAt ws j ≡ 0
+unfolding countBits
+count-clear zero ws i e j a b = absurd (omega arith)
+count-clear (suc n) ws i e j a b =
+    ⊎-elim
+    (λ z. let here : bitAt ws i ≡ 0 = omega arith in ap (bitAt ws) (sym z) ∙ here)
+    (λ z. count-clear n ws (i + 1) (omega arith) j (omega arith) (omega arith))
+    (eq-or-lt-of-le a)
+
+-- ---- places of one word, by a mask
+
+-- the set ones of the m low digits of a number
+ones-mod : (m x : ℕ) → onesIn m x ≡ ones (x % 2 ^ m)
+unfolding onesIn ones
+ones-mod zero x = let none : 0 ≡ x % 2 ^ 0 = omega arith in ap ones none
+ones-mod (suc m) x =
+    ap (λ (y : ℕ). x % 2 + y) (ones-mod m (x / 2))
+    ∙ sym (ones-step (x % 2 ^ suc m) ∙ ap₂ (λ (y z : ℕ). y + ones z) (low-mod x m) (half-mod x m))
+
+ones-mask : (w o m : ℕ) → ones (bitAnd w (maskOf o m)) ≡ ones (w / 2 ^ o % 2 ^ m)
+unfolding ones
+ones-mask w o m =
+    ap (λ (b : ℕ). ones (bitAnd w b)) (sym (high-ones m o)) ∙ ap ones (and-high w m o ∙ sym (add-zero (w / 2 ^ o % 2 ^ m * 2 ^ o)))
+    ∙ ones-cat o (w / 2 ^ o % 2 ^ m) 0 (pow-pos o) ∙ add-zero (ones (w / 2 ^ o % 2 ^ m))
+
+count-rest : (m : ℕ) (ws : List ℕ) (q j : ℕ) → q % 64 + (j + m) ≤ 64 → countBits ws (q + j) m ≡ onesIn m (rest ws q / 2 ^ j)
+unfolding countBits onesIn bit
+count-rest zero ws q j l = refl
+count-rest (suc m) ws q j l =
+    let next : q + j + 1 ≡ q + (j + 1) = omega arith in
+    ap₂ (λ (x y : ℕ). x + y) (bit-rest ws q j (omega arith))
+    (ap (λ (x : ℕ). countBits ws x m) next ∙ count-rest m ws q (j + 1) (omega arith) ∙ ap (onesIn m) (sym (shr-shr (rest ws q) j 1)))
+
+pub count-word : (ws : List ℕ) (i m : ℕ) → i % 64 + m ≤ 64 → countBits ws i m ≡ ones (bitAnd (getD ws (i / 64) 0) (maskOf (i % 64) m))
+count-word ws i m l =
+    ap (λ (x : ℕ). countBits ws x m) (sym (add-zero i)) ∙ count-rest m ws i 0 (omega arith)
+    ∙ ap (onesIn m) (div-one (rest ws i)) ∙ ones-mod m (rest ws i)
+    ∙ sym (ones-mask (getD ws (i / 64) 0) (i % 64) m)
+
+-- a turn of the loop: the m places from i on are counted, and those from i + m up to `to` are left
+pub count-turn : (ws : List ℕ) (i m to : ℕ) → i + m ≤ to → countBits ws i (to - i) ≡ countBits ws i m + countBits ws (i + m) (to - (i + m))
+count-turn ws i m to l =
+    let all : to - i ≡ m + (to - (i + m)) = omega arith in
+    ap (λ (x : ℕ). countBits ws i x) all ∙ count-add m ws i (to - (i + m))

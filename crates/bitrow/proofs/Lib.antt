@@ -1,0 +1,6 @@
+pub mod Words
+pub mod Rows
+pub mod Masks
+pub mod Marks
+pub mod Ext
+pub mod Counts

@@ -1,0 +1,91 @@
+-- `bitrow::next_bit` meets its contract. The loop's invariant: the search from q on gives the whole answer.
+-- Assumes nothing.
+use mathlib.Core.Path.{_≡_, refl, sym, _∙_}
+use Prim.Native.Nat.{_-_, _≤_}
+use native.Mathlib.Omega.{arith}
+use borrow.Author.Needs.{needs}
+use Rattle.bitrow.specs.Row.{digit, nextBit}
+use Rattle.bitrow.proofs.Words.{digit-lt}
+use Rattle.bitrow.proofs.Rows.{next-inside, next-passed, next-none}
+use Rattle.bitrow.proofs.next_bit.Statement.{statement}
+use Rattle.bitrow.proofs.next_bit.Tie as tie
+
+abbrev Inv-loop : tie.InvT-loop
+Inv-loop words from to v q₀ q =
+    (q ≤ to) × (nextBit (digit v) words q (to - q) ≡ nextBit (digit v) words from (to - from))
+
+abbrev μ-loop : tie.MeasureT-loop
+μ-loop words from to v q₀ q = to - q
+
+loop-holds : tie.Need-loop-holds Inv-loop μ-loop
+loop-holds c = (omega arith, refl)
+
+in-word-requires : tie.Need-in-word-requires Inv-loop μ-loop
+in-word-requires c κs = omega arith
+
+mul-w : tie.Need-mul-w Inv-loop μ-loop
+mul-w c = omega arith
+
+shared-slice-read-w : tie.Need-shared-slice-read-w Inv-loop μ-loop
+shared-slice-read-w c = omega arith
+
+shr-first-bit : tie.Need-shr-first-bit Inv-loop μ-loop
+shr-first-bit c = omega arith
+
+first-bit-requires : tie.Need-first-bit-requires Inv-loop μ-loop
+first-bit-requires c κs = search needs
+
+cast-t : tie.Need-cast-t Inv-loop μ-loop
+cast-t c = search needs
+
+add-result : tie.Need-add-result Inv-loop μ-loop
+add-result c = omega arith
+
+returns : tie.Need-returns Inv-loop μ-loop
+returns c =
+    let start = c .before .before .before .before .before .before .before in
+    let l = c .before .before .before .before .before .loop in
+    sym (next-inside (digit (start .args .v)) (start .args .words .now) (l .q) (start .args .to) _ _ (digit-lt (start .args .v))
+    (c .before .first-bit .ensures) (omega arith) (omega arith) (c .if1 .taken)) ∙ l .inv .1
+
+add-q : tie.Need-add-q Inv-loop μ-loop
+add-q c = omega arith
+
+loop-less : tie.Need-loop-less Inv-loop μ-loop
+loop-less c = omega arith
+
+loop-again : tie.Need-loop-again Inv-loop μ-loop
+loop-again c =
+    let start = c .before .before .before .before .before .before .before in
+    let l = c .before .before .before .before .before .loop in (
+      omega arith,
+      sym (next-passed (digit (start .args .v)) (start .args .words .now) (l .q) (start .args .to) _ _ (digit-lt (start .args .v))
+          (c .before .first-bit .ensures) (omega arith) (omega arith) (c .if1 .left)) ∙ l .inv .1,
+    )
+
+returns-2 : tie.Need-returns-2 Inv-loop μ-loop
+returns-2 c =
+    let start = c .before .before .before in
+    let l = c .before .loop in
+    let e : start .args .to ≡ l .q = omega arith in
+    e ∙ sym (next-none (digit (start .args .v)) (start .args .words .now) (l .q) _ (omega arith)) ∙ l .inv .1
+
+pub next-bit-spec : {M : Type 1} → statement M
+next-bit-spec =
+    tie.close
+    (tie.spec
+    Inv-loop
+    μ-loop
+    loop-holds
+    in-word-requires
+    mul-w
+    shared-slice-read-w
+    shr-first-bit
+    first-bit-requires
+    cast-t
+    add-result
+    returns
+    add-q
+    loop-less
+    loop-again
+    returns-2)

@@ -1,0 +1,155 @@
+-- Laws of the size classes, for the proofs of their callers.
+-- Assumes nothing.
+use mathlib.Core.Path.{_≡_, refl, ap}
+use mathlib.Core.Logic.{by-cases}
+use mathlib.Core.Bool.{Bool, true, false, cond}
+use mathlib.Core.List.{List, [], _∷_}
+use Prim.Native.Nat.{ℕ, zero, suc, _+_, _*_, _-_, _≤_, _<_}
+use native.Mathlib.Decide.{decLt}
+use native.Mathlib.Omega.{arith}
+use borrow.Author.Tests.{leb-true, leb-false}
+use lib.Dec.{T, leb, ltb, eqb, leb→le, ltb→lt, eqb→eq, lit<}
+use lib.ListN.{length, getD, List·getD-eq-default}
+use Rattle.classes.specs.declared.Row.{Row}
+use Rattle.classes.specs.Classes.{rowOf, rows, rowAt, size, slots, pages, firstHolding, classFor, RowFacts, Smallest}
+use Rattle.classes.proofs.Entries.{every, at}
+
+-- ---- the 30 rows
+
+-- what each row keeps to, as tests
+abbrev rowTests : Row → List Bool
+rowTests r =
+    leb (r .slots * r .size) (4096 * r .pages) ∷
+    ltb (4096 * r .pages) (suc (r .slots) * r .size) ∷
+    leb 1 (r .slots) ∷
+    leb (r .slots) 512 ∷
+    leb 1 (r .pages) ∷
+    leb (r .pages) 7 ∷
+    leb 8 (r .size) ∷
+    leb (r .size) 3072 ∷
+    []
+
+abbrev rowTest : ℕ → Row → Bool
+rowTest b r = every (λ i x. x) 0 (rowTests r)
+
+row-passed : (b : ℕ) (r : Row) → T (rowTest b r) → RowFacts r
+row-passed b r t =
+    let passed : (i : ℕ) → i < 8 → T (getD (rowTests r) i true) = at (λ i x. x) true (rowTests r) t in
+    record {
+      fit = leb→le _ _ (passed 0 (lit< tt));
+      full = ltb→lt _ _ (passed 1 (lit< tt));
+      slots-least = leb→le _ _ (passed 2 (lit< tt));
+      slots-most = leb→le _ _ (passed 3 (lit< tt));
+      pages-least = leb→le _ _ (passed 4 (lit< tt));
+      pages-most = leb→le _ _ (passed 5 (lit< tt));
+      size-least = leb→le _ _ (passed 6 (lit< tt));
+      size-most = leb→le _ _ (passed 7 (lit< tt));
+    }
+
+pub row-facts : (b : ℕ) → b < 30 → RowFacts (rowAt b)
+unfolding rows rowAt
+row-facts b h = row-passed b _ (at rowTest (rowOf 0 0 0) rows tt b h)
+
+-- what holds of any number b: where it names no class, its row is all zero
+pub record AnyRow (b : ℕ) : Type 0 where
+  pub fit : slots b * size b ≤ 4096 * suc (pages b - 1)
+  pub slots-most : slots b ≤ 512
+  pub pages-most : pages b ≤ 7
+  pub size-some : (s : ℕ) → s < slots b → 0 < size b
+
+some-row : (b : ℕ) → RowFacts (rowAt b) → AnyRow b
+some-row b r =
+    let p : suc (pages b - 1) ≡ pages b = omega arith in
+    record {
+      fit = rw p (r .fit);
+      slots-most = r .slots-most;
+      pages-most = r .pages-most;
+      size-some = λ s h. omega arith;
+    }
+
+no-row : (b : ℕ) → rowAt b ≡ rowOf 0 0 0 → AnyRow b
+no-row b e =
+    let s : slots b ≡ 0 = ap (λ (r : Row). r .slots) e in
+    let p : pages b ≡ 0 = ap (λ (r : Row). r .pages) e in
+    record { fit = rw s (omega arith); slots-most = omega arith; pages-most = omega arith; size-some = λ t h. omega arith }
+
+pub any-row : (b : ℕ) → AnyRow b
+unfolding rows rowAt
+any-row b =
+    by-cases (decLt b 30) (λ h. some-row b (row-facts b h)) (λ h. no-row b (List·getD-eq-default rows (rowOf 0 0 0) {n = b} (omega arith)))
+
+-- ---- the smallest class that holds a size
+
+-- the k that firstHolding finds in the rows rs, counted from b: k is b + length rs where no row holds n bytes
+record First (rs : List Row) (b n k : ℕ) : Type 0 where
+  low : b ≤ k
+  most : k ≤ b + length rs
+  holds : (a : ℕ) → a + b ≡ k → a < length rs → n ≤ getD rs a (rowOf 0 0 0) .size
+  smaller : (a : ℕ) → a + b < k → getD rs a (rowOf 0 0 0) .size < n
+
+first-here : (r : Row) (rs : List Row) (b n : ℕ) → n ≤ r .size → First (r ∷ rs) b n b
+first-here r rs b n h =
+    record {
+      low = omega arith;
+      most = omega arith;
+      holds = here;
+      smaller = λ a l. absurd (omega arith);
+    }
+  where
+    here : (a : ℕ) → a + b ≡ b → a < suc (length rs) → n ≤ getD (r ∷ rs) a (rowOf 0 0 0) .size
+    here zero e l = h
+    here (suc a) e l = absurd (omega arith)
+
+first-later : (r : Row) (rs : List Row) (b n k : ℕ) → r .size < n → First rs (suc b) n k → First (r ∷ rs) b n k
+first-later r rs b n k h f =
+    record {
+      low = omega arith;
+      most = omega arith;
+      holds = holds;
+      smaller = smaller;
+    }
+  where
+    holds : (a : ℕ) → a + b ≡ k → a < suc (length rs) → n ≤ getD (r ∷ rs) a (rowOf 0 0 0) .size
+    holds zero e l = absurd (omega (arith, f .low))
+    holds (suc a) e l = f .holds a (omega arith) (omega arith)
+
+    smaller : (a : ℕ) → a + b < k → getD (r ∷ rs) a (rowOf 0 0 0) .size < n
+    smaller zero l = h
+    smaller (suc a) l = f .smaller a (omega arith)
+
+first : (rs : List Row) (b n : ℕ) → First rs b n (firstHolding rs b n)
+unfolding firstHolding
+first [] b n = record { low = omega arith; most = omega arith; holds = λ a e l. absurd (omega arith); smaller = λ a l. absurd (omega arith) }
+first (r ∷ rs) b n = pick (leb n (r .size)) refl (first rs (suc b) n)
+  where
+    pick : (t : Bool) → leb n (r .size) ≡ t → First rs (suc b) n (firstHolding rs (suc b) n) → First (r ∷ rs) b n (cond t b (firstHolding rs (suc b) n))
+    pick true e f = first-here r rs b n (leb-true _ _ e)
+    pick false e f = first-later r rs b n _ (leb-false _ _ e) f
+
+class-first : (n : ℕ) → First rows 0 n (classFor n)
+unfolding classFor
+class-first n = first rows 0 n
+
+pub class-smallest : (n : ℕ) → n ≤ 3072 → Smallest n (classFor n)
+unfolding rows rowAt
+class-smallest n h =
+    let f = class-first n in
+    let below : classFor n < 30 = by-cases (decLt (classFor n) 30) (λ l. l) (λ l. absurd (omega (arith, f .smaller 29 (omega arith)))) in
+    record { class = below; holds = f .holds (classFor n) (omega arith) below; smaller = λ a l. f .smaller a (omega arith) }
+
+pub class-none : (n : ℕ) → 3072 < n → classFor n ≡ 30
+unfolding rows rowAt
+class-none n h =
+    let f = class-first n in
+    by-cases (decLt (classFor n) 30)
+    (λ l. absurd (omega (arith, f .holds (classFor n) (omega arith) l, row-facts (classFor n) l .size-most)))
+    (λ l. omega arith)
+
+-- the class of a class's own size is that class
+pub class-own : (b : ℕ) → b < 30 → classFor (size b) ≡ b
+unfolding rows rowAt firstHolding classFor
+class-own b h = eqb→eq _ _ (at (λ i r. eqb (classFor (r .size)) i) (rowOf 0 0 0) rows tt b h)
+
+-- the sizes rise: class a is one of those that are too small for class b's own size
+pub size-rises : (a b : ℕ) → a < b → b < 30 → size a < size b
+size-rises a b l h = class-smallest (size b) (row-facts b h .size-most) .smaller a (rw (class-own b h) l)
