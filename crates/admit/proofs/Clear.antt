@@ -33,10 +33,10 @@ pub or-none : (a b : ℕ) → eqb (bitOr a b) 0 ≡ eqb b 0 && eqb a 0
 or-none a b =
     flag-eq (eqb (bitOr a b) 0) (eqb b 0 && eqb a 0)
     (λ e. let z = eqb-true (bitOr a b) 0 e in
-      and-made (eqb b 0) (eqb a 0) (eq-eqb b 0 (omega (arith, or-add-and a b, and-le-l a b, and-le-r a b)))
-      (eq-eqb a 0 (omega (arith, or-add-and a b, and-le-l a b, and-le-r a b))))
+    and-made (eqb b 0) (eqb a 0) (eq-eqb b 0 (omega (arith, or-add-and a b, and-le-l a b, and-le-r a b)))
+    (eq-eqb a 0 (omega (arith, or-add-and a b, and-le-l a b, and-le-r a b))))
     (λ e. eq-eqb (bitOr a b) 0
-      (omega (arith, or-add-and a b, eqb-true b 0 (and-left (eqb b 0) (eqb a 0) e), eqb-true a 0 (and-right (eqb b 0) (eqb a 0) e))))
+    (omega (arith, or-add-and a b, eqb-true b 0 (and-left (eqb b 0) (eqb a 0) e), eqb-true a 0 (and-right (eqb b 0) (eqb a 0) e))))
 
 pub all-none : (f : ℕ → Bool) → eqb 0 0 ≡ all 0 f
 unfolding all
@@ -66,13 +66,14 @@ mask-clear x m h = by-cases (decLe m 64) low high
         let r : 64 - m + m ≡ 64 = omega arith in
         let h′ : x < 2 ^ (64 - m + m) = rw r h in
         let a : bitAnd x (2 ^ 64 - 2 ^ m) ≡ (x / 2 ^ m % 2 ^ (64 - m)) * 2 ^ m =
-              ap (λ (k : ℕ). bitAnd x (2 ^ k - 2 ^ m)) (sym r) ∙ and-high x (64 - m) m in
+        ap (λ (k : ℕ). bitAnd x (2 ^ k - 2 ^ m)) (sym r) ∙ and-high x (64 - m) m in
         let b : x / 2 ^ m % 2 ^ (64 - m) ≡ x / 2 ^ m = shr-mod (64 - m) m h′ in
         ap (λ (y : ℕ). eqb y 0) (a ∙ ap (λ (y : ℕ). y * 2 ^ m) b) ∙ times (x / 2 ^ m) (2 ^ m) (pow-pos m)
       where
         times : (y p : ℕ) → 0 < p → eqb (y * p) 0 ≡ eqb y 0
         times zero p l = eq-eqb (0 * p) 0 (zero-mul p) ∙ sym (eq-eqb 0 0 refl)
         times (suc y) p l = ne-eqb (suc y * p) 0 (omega arith) ∙ sym (ne-eqb (suc y) 0 (omega arith))
+
     high : ¬ (m ≤ 64) → eqb (bitAnd x (2 ^ 64 - 2 ^ m)) 0 ≡ eqb (x / 2 ^ m) 0
     high n =
         let p : 2 ^ 64 ≤ 2 ^ m = pow-mono {i = 64} {j = m} (omega arith) in
@@ -121,7 +122,7 @@ pub stray-turn : (ss ms : List ℕ) (g b i m j acc : ℕ) → i ≡ 8 * g → m 
 stray-turn ss ms g b i m j acc r q t h l k e =
     or-turn (wordClear ss g (slots b)) j acc (bitAnd (getD ss (i + j) 0) (getD ms (m + j) 0)) e
     (ap₂ (λ (a c : ℕ). eqb (bitAnd (getD ss (a + j) 0) (getD ms (c + j) 0)) 0) r q
-      ∙ word-masked ss ms g b j t h l (subst (λ (a : ℕ). getD ss (a + j) 0 < 2 ^ 64) r k))
+    ∙ word-masked ss ms g b j t h l (subst (λ (a : ℕ). getD ss (a + j) 0 < 2 ^ 64) r k))
 
 pub slots-done : (ss : List ℕ) (g n j acc : ℕ) → j ≤ 8 → 8 ≤ j → eqb acc 0 ≡ all j (wordClear ss g n) → eqb acc 0 ≡ slotsClear ss g n
 unfolding slotsClear
@@ -154,8 +155,8 @@ up-on d rs l k e z h u =
     record {
       long = length-set l k (getD rs k d .pages - 1) ∙ n;
       at = λ j a. by-cases (ℕ-discrete j k)
-        (λ s. ap (λ (i : ℕ). getD (set l k (getD rs k d .pages - 1)) i 0) s ∙ getD-set-same l k (getD rs k d .pages - 1) 0 (omega arith) ∙ q ∙ ap behind (sym s))
-        (λ s. getD-set-other l k j (getD rs k d .pages - 1) 0 s ∙ u .at j (omega arith))
+          (λ s. ap (λ (i : ℕ). getD (set l k (getD rs k d .pages - 1)) i 0) s ∙ getD-set-same l k (getD rs k d .pages - 1) 0 (omega arith) ∙ q ∙ ap behind (sym s))
+          (λ s. getD-set-other l k j (getD rs k d .pages - 1) 0 s ∙ u .at j (omega arith));
     }
 
 pub up-done : {l : List ℕ} {k : ℕ} → BehindUp l k → 30 ≤ k → Behinds l
@@ -173,8 +174,8 @@ high-none x m h f =
     let l = shr-le x m in
     word-ext 64 (x / 2 ^ m) 0 (omega arith) (omega arith)
     (λ t a. bit-shr x m t
-      ∙ by-cases (decLt (m + t) 64) (λ b. f (m + t) b (omega arith)) (λ b. bit-high x 64 (m + t) (div-eq-of-lt h) (omega arith))
-      ∙ sym (bit-of-zero t))
+    ∙ by-cases (decLt (m + t) 64) (λ b. f (m + t) b (omega arith)) (λ b. bit-high x 64 (m + t) (div-eq-of-lt h) (omega arith))
+    ∙ sym (bit-of-zero t))
 
 -- ---- the slot bits of a page
 
@@ -219,15 +220,16 @@ page-clean p g bound =
     up : all 8 (wordClear (p .slots) g (slotsOf (kindAt p g))) ≡ true → (s : ℕ) → s < 512 → slotsOf (kindAt p g) ≤ s → named p g s ≡ true
     up e s l h =
         let z = eqb-true (getD (p .slots) (8 * g + s / 64) 0 / 2 ^ (slotsOf (kindAt p g) - 64 * (s / 64))) 0
-              (all-at 8 (wordClear (p .slots) g (slotsOf (kindAt p g))) e (s / 64) (omega arith)) in
+        (all-at 8 (wordClear (p .slots) g (slotsOf (kindAt p g))) e (s / 64) (omega arith)) in
         let r : 64 * (s / 64) + s % 64 ≡ s = omega arith in
         named-free p g s
         (ap (slotAt p g) (sym r) ∙ slot-bit p g (s / 64) (s % 64) (omega arith)
-          ∙ ap (λ (x : ℕ). eqb x 1) (bit-high (getD (p .slots) (8 * g + s / 64) 0) (slotsOf (kindAt p g) - 64 * (s / 64)) (s % 64) z (omega arith))
-          ∙ ne-eqb 0 1 (omega arith))
+        ∙ ap (λ (x : ℕ). eqb x 1) (bit-high (getD (p .slots) (8 * g + s / 64) 0) (slotsOf (kindAt p g) - 64 * (s / 64)) (s % 64) z (omega arith))
+        ∙ ne-eqb 0 1 (omega arith))
+
     down : all 512 (named p g) ≡ true → (j : ℕ) → j < 8 → wordClear (p .slots) g (slotsOf (kindAt p g)) j ≡ true
     down e j l =
         eq-eqb (getD (p .slots) (8 * g + j) 0 / 2 ^ (slotsOf (kindAt p g) - 64 * j)) 0
         (high-none (getD (p .slots) (8 * g + j) 0) (slotsOf (kindAt p g) - 64 * j) (bound (8 * g + j))
-          (λ t a b. bit-clear (getD (p .slots) (8 * g + j) 0) t
-            (sym (slot-bit p g j t a) ∙ named-false p g (64 * j + t) (all-at 512 (named p g) e (64 * j + t) (omega arith)) (omega arith))))
+        (λ t a b. bit-clear (getD (p .slots) (8 * g + j) 0) t
+        (sym (slot-bit p g j t a) ∙ named-false p g (64 * j + t) (all-at 512 (named p g) e (64 * j + t) (omega arith)) (omega arith))))

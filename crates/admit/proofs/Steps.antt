@@ -62,8 +62,8 @@ run-other : (x : ℕ) (xs : List ℕ) (w : ℕ) → x ≢ w → step (x ∷ xs) 
 run-other x xs w n =
     le-cases P 0xC0000000 w (λ a. cond-ne x w (some xs) none n)
     (λ a. le-cases P 0x80000000 w (λ b. lt-cases P w 0x8000001E (λ d. refl) (λ d. refl))
-      (λ b. le-cases P 0x40000001 w (λ d. lt-cases P w 0x40000200 (λ e. refl) (λ e. refl))
-        (λ d. eq-cases P w 0 (λ e. cond-ne x w (some xs) none n) (λ e. refl))))
+    (λ b. le-cases P 0x40000001 w (λ d. lt-cases P w 0x40000200 (λ e. refl) (λ e. refl))
+    (λ d. eq-cases P w 0 (λ e. cond-ne x w (some xs) none n) (λ e. refl))))
   where
     P : Kind → Type 0
     P k = step (x ∷ xs) k ≡ none
@@ -87,7 +87,7 @@ module _ (ss : List ℕ) (g left due w : ℕ) (ok : Bool) (left′ due′ x : �
       record {
         moves = ap (λ (v : Bool). outcome v (coming due′ left′)) (bad .0) ∙ sym e;
         strays = λ h. absurd (false≢true (sym (bad .0) ∙ h));
-        ready = rw (bad .1, bad .2) ready-none
+        ready = rw (bad .1, bad .2) ready-none;
       }
 
   inside : (t : Bool) → ((xs : List ℕ) → step (due ∷ xs) (kindOf false t w) ≡ none) → left ≢ 0 → Paged ss g left due w t ok left′ due′ x
@@ -131,7 +131,7 @@ module _ (ss : List ℕ) (g left due w : ℕ) (x : ℕ) where
       record {
         moves = sym (ap₂ (λ (m : ℕ) (q : Kind). step (coming due m) q) l e ∙ s);
         strays = λ h. c ∙ ap (λ (q : Kind). slotsClear ss g (slotsOf q)) (sym e);
-        ready = r
+        ready = r;
       }
 
   pub is-free : left ≡ 0 → w ≡ 0 → eqb x 0 ≡ slotsClear ss g 0 → Paged ss g left due w false true 0 0 x
@@ -160,7 +160,7 @@ module _ (ss : List ℕ) (g left due w : ℕ) (x : ℕ) where
       record {
         moves = sym (ap (step (coming due left)) k ∙ go left l);
         strays = λ h. c ∙ ap (λ (q : Kind). slotsClear ss g (slotsOf q)) (sym k);
-        ready = ready-after left due d r l f
+        ready = ready-after left due d r l f;
       }
     where
       go : (n : ℕ) → n ≢ 0 → step (coming due n) (inner due) ≡ some (coming d (n - 1))

@@ -101,7 +101,7 @@ module _ (p : Pool) (g left due w : ℕ) (t ok : Bool) (left′ due′ x : ℕ) 
   unfolding outcome
   page-off acc n e =
       sym (ap (held acc) (page-step p (coming due left) g n none (stepped ∙ ap (λ (v : Bool). outcome v (coming due′ left′)) e) ∙ and-false (clean p g))
-        ∙ held-false acc)
+      ∙ held-false acc)
 
 -- ---- the page bits, read from one word shifted once a page
 
@@ -148,7 +148,7 @@ walked-start p i left due r f =
       ready = r;
       bits = sym (div-one (getD (p .bits) i 0));
       first = λ z h. rw e (f (edge-word i 0 z h));
-      says = block-start p i (coming due left)
+      says = block-start p i (coming due left);
     }
 
 module _ {p : Pool} {i left due q l d acc bw : ℕ} (h : Walked p i left due q l d acc bw) (lt : q < 64) (bound : (j : ℕ) → getD (p .slots) j 0 < 2 ^ 64)
@@ -167,21 +167,21 @@ module _ {p : Pool} {i left due q l d acc bw : ℕ} (h : Walked p i left due q l
         bits = bits-next (getD (p .bits) i 0) q bw (h .bits);
         first = λ z k. absurd (omega arith);
         says =
-          λ m.
+            λ m.
             let a : 64 * i + (q + 1) ≡ suc (64 * i + q) = omega arith in
             ap (λ (g : ℕ). held (bitOr acc x) (soundFrom p (coming d′ l′) g (64 - (q + 1) + m))) a
             ∙ page-on p (64 * i + q) l d (getD (p .words) (64 * i + q) 0) (eqb (bw % 2) 1) ok l′ d′ x bound refl bit-was (λ z. h .first z lt) s acc (64 - (q + 1) + m) e
-            ∙ one-more m
+            ∙ one-more m;
       }
 
   pub walked-off : ok ≡ false → Swept p i left due false 0 0
   walked-off e =
       record {
         says =
-          λ m.
+            λ m.
             page-off p (64 * i + q) l d (getD (p .words) (64 * i + q) 0) (eqb (bw % 2) 1) ok l′ d′ x bound refl bit-was (λ z. h .first z lt) s acc (64 - (q + 1) + m) e
             ∙ one-more m;
-        ready = ready-none
+        ready = ready-none;
       }
 
 pub walked-done : {p : Pool} {i left due q l d acc bw : ℕ} → Walked p i left due q l d acc bw → q ≡ 64 → Swept p i left due (eqb acc 0) l d
@@ -201,13 +201,13 @@ unfolding kindAt isEdge
 edge-off p i left due z f =
     let e : 64 * i % 512 ≡ 0 = omega arith in
     let k : step (coming due left) (kindAt p (64 * i)) ≡ none =
-          ap (λ (v : Bool). step (coming due left) (kindOf v (isSet (p .bits) (64 * i)) (getD (p .words) (64 * i) 0))) (eq-eqb (64 * i % 512) 0 e)
-          ∙ no-edge due left (isSet (p .bits) (64 * i)) (getD (p .words) (64 * i) 0) f in
+    ap (λ (v : Bool). step (coming due left) (kindOf v (isSet (p .bits) (64 * i)) (getD (p .words) (64 * i) 0))) (eq-eqb (64 * i % 512) 0 e)
+    ∙ no-edge due left (isSet (p .bits) (64 * i)) (getD (p .words) (64 * i) 0) f in
     record {
       says =
-        λ m. let r : 64 + m ≡ suc (63 + m) = omega arith in
+          λ m. let r : 64 + m ≡ suc (63 + m) = omega arith in
           sym (ap (soundFrom p (coming due left) (64 * i)) r ∙ page-step p (coming due left) (64 * i) (63 + m) none k ∙ and-false (clean p (64 * i)));
-      ready = ready-none
+      ready = ready-none;
     }
 
 -- ---- a block of free pages
@@ -225,9 +225,9 @@ unfolding outcome
 free-word w =
     by-cases (ℕ-discrete w 0)
     (λ e. let k : kindOf false false w ≡ free = cond-eq w 0 free damaged e in
-      (ap (step []) k ∙ ap (λ (v : Bool). outcome v []) (sym (eq-eqb w 0 e)), ap slotsOf k))
+    (ap (step []) k ∙ ap (λ (v : Bool). outcome v []) (sym (eq-eqb w 0 e)), ap slotsOf k))
     (λ e. let k : kindOf false false w ≡ damaged = cond-ne w 0 free damaged e in
-      (ap (step []) k ∙ ap (λ (v : Bool). outcome v []) (sym (ne-eqb w 0 e)), ap slotsOf k))
+    (ap (step []) k ∙ ap (λ (v : Bool). outcome v []) (sym (ne-eqb w 0 e)), ap slotsOf k))
 
 -- a page with the bit 0, not page 0 of its chunk
 module _ (p : Pool) (i q : ℕ) (lt : q < 64) (ne : i % 8 ≢ 0) (zero-bits : getD (p .bits) i 0 ≡ 0) (bound : (j : ℕ) → getD (p .slots) j 0 < 2 ^ 64) where
@@ -249,20 +249,20 @@ module _ (p : Pool) (i q : ℕ) (lt : q < 64) (ne : i % 8 ≢ 0) (zero-bits : ge
   freed-on acc x w h c e =
       let (s, k) = free-word (getD (p .words) (64 * i + q) 0) in
       let d : eqb x 0 ≡ clean p (64 * i + q) =
-            c ∙ ap (slotsClear (p .slots) (64 * i + q)) (sym (ap slotsOf free-kind ∙ k)) ∙ page-clean p (64 * i + q) bound in
+      c ∙ ap (slotsClear (p .slots) (64 * i + q)) (sym (ap slotsOf free-kind ∙ k)) ∙ page-clean p (64 * i + q) bound in
       let t : step [] (kindAt p (64 * i + q)) ≡ outcome (eqb w 0) [] = ap (step []) free-kind ∙ s ∙ ap (λ (v : ℕ). outcome (eqb v 0) []) (sym e) in
       record {
         says =
-          λ m.
+            λ m.
             let a : 64 * i + (q + 1) ≡ suc (64 * i + q) = omega arith in
             let r : suc (64 - (q + 1) + m) ≡ 64 - q + m = omega arith in
             ap (λ (j : ℕ). held (bitOr acc (bitOr x w)) (soundFrom p [] j (64 - (q + 1) + m))) a
             ∙ held-or acc (bitOr x w) (eqb w 0 && eqb x 0) (soundFrom p [] (suc (64 * i + q)) (64 - (q + 1) + m)) (or-none x w)
             ∙ ap (held acc)
-              (go (eqb w 0) (eqb x 0) (λ u. soundFrom p u (suc (64 * i + q)) (64 - (q + 1) + m))
-              ∙ ap (λ (v : Bool). v && follow (outcome (eqb w 0) []) (λ u. soundFrom p u (suc (64 * i + q)) (64 - (q + 1) + m))) d
-              ∙ sym (page-step p [] (64 * i + q) (64 - (q + 1) + m) (outcome (eqb w 0) []) t))
-            ∙ ap (λ (j : ℕ). held acc (soundFrom p [] (64 * i + q) j)) r ∙ h .says m
+            (go (eqb w 0) (eqb x 0) (λ u. soundFrom p u (suc (64 * i + q)) (64 - (q + 1) + m))
+            ∙ ap (λ (v : Bool). v && follow (outcome (eqb w 0) []) (λ u. soundFrom p u (suc (64 * i + q)) (64 - (q + 1) + m))) d
+            ∙ sym (page-step p [] (64 * i + q) (64 - (q + 1) + m) (outcome (eqb w 0) []) t))
+            ∙ ap (λ (j : ℕ). held acc (soundFrom p [] (64 * i + q) j)) r ∙ h .says m;
       }
     where
       go : (a b : Bool) (f : List ℕ → Bool) → (a && b) && f [] ≡ b && follow (outcome a []) f

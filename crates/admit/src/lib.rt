@@ -71,7 +71,12 @@ pub struct PageStep {
 fn wrong() -> PageStep
     ensures { λ r. ⌜ (r .ok ≡ false) × (r .left ≡ 0) × (r .due ≡ 0) ⌝ }
 {
-    PageStep { ok: false, left: 0, due: 0, stray: 0 }
+    PageStep {
+        ok: false,
+        left: 0,
+        due: 0,
+        stray: 0,
+    }
 }
 
 // The word of the next page inside a run: large runs have zeros there, class runs count up.
@@ -86,7 +91,16 @@ fn after_word(due: u32) -> u32
 }
 
 // One page that is not page 0 of its chunk. Stray slot bits are only gathered, so that a page costs no branch for them.
-fn page(w: u32, taken: bool, left: u32, due: u32, slots: &[u64], g: usize, masks: &[u64; 240], behinds: &[u32; 30]) -> PageStep
+fn page(
+    w: u32,
+    taken: bool,
+    left: u32,
+    due: u32,
+    slots: &[u64],
+    g: usize,
+    masks: &[u64; 240],
+    behinds: &[u32; 30],
+) -> PageStep
     requires { ⌜ (g < 8192) × (8 * g + 8 ≤ length (now slots)) × (now masks ≡ maskTable) × (Behinds (now behinds)) × (Ready left due) ⌝ }
     ensures { λ r. ⌜ Paged (now (slots .entry)) g left due w taken (r .ok) (r .left) (r .due) (r .stray) ⌝ }
 {
@@ -99,21 +113,36 @@ fn page(w: u32, taken: bool, left: u32, due: u32, slots: &[u64], g: usize, masks
         }
         let x = any_slot(slots, g);
         let d = after_word(due);
-        return PageStep { ok: true, left: left - 1, due: d, stray: x };
+        return PageStep {
+            ok: true,
+            left: left - 1,
+            due: d,
+            stray: x,
+        };
     }
     if !taken {
         if w != 0 {
             return wrong();
         }
         let x = any_slot(slots, g);
-        return PageStep { ok: true, left: 0, due: 0, stray: x };
+        return PageStep {
+            ok: true,
+            left: 0,
+            due: 0,
+            stray: x,
+        };
     }
     if 0x80000000 <= w {
         if w < 0x8000001E {
             let b = (w - 0x80000000) as usize;
             let x = stray_slot(slots, g, masks, b);
             let n = behinds[b];
-            return PageStep { ok: true, left: n, due: w + 0x40010000, stray: x };
+            return PageStep {
+                ok: true,
+                left: n,
+                due: w + 0x40010000,
+                stray: x,
+            };
         }
         return wrong();
     }
@@ -122,7 +151,12 @@ fn page(w: u32, taken: bool, left: u32, due: u32, slots: &[u64], g: usize, masks
     }
     if w < 0x40000200 {
         let x = any_slot(slots, g);
-        return PageStep { ok: true, left: w - 0x40000001, due: 0, stray: x };
+        return PageStep {
+            ok: true,
+            left: w - 0x40000001,
+            due: 0,
+            stray: x,
+        };
     }
     wrong()
 }
@@ -147,12 +181,25 @@ pub struct State {
 }
 
 // The 64 pages of page-bit word i.
-fn mixed_block(bits: &[u64], words: &[u32], slots: &[u64], i: usize, left: u32, due: u32, masks: &[u64; 240], behinds: &[u32; 30]) -> State
+fn mixed_block(
+    bits: &[u64],
+    words: &[u32],
+    slots: &[u64],
+    i: usize,
+    left: u32,
+    due: u32,
+    masks: &[u64; 240],
+    behinds: &[u32; 30],
+) -> State
     requires { ⌜ (i < 128) × (i < length (now bits)) × (64 * i + 64 ≤ length (now words)) × (512 * i + 512 ≤ length (now slots)) × (now masks ≡ maskTable) × (Behinds (now behinds)) × (Ready left due) ⌝ }
     ensures { λ r. ⌜ Swept (pool (now (bits .entry)) (now (words .entry)) (now (slots .entry))) i left due (r .ok) (r .left) (r .due) ⌝ }
 {
     if !edge_ok(i, left, words[64 * i]) {
-        return State { ok: false, left: 0, due: 0 };
+        return State {
+            ok: false,
+            left: 0,
+            due: 0,
+        };
     }
     let mut bw = bits[i];
     let mut l = left;
@@ -164,7 +211,11 @@ fn mixed_block(bits: &[u64], words: &[u32], slots: &[u64], i: usize, left: u32, 
         let w = words[g];
         let s = page(w, bw % 2 == 1, l, d, slots, g, masks, behinds);
         if !s.ok {
-            return State { ok: false, left: 0, due: 0 };
+            return State {
+                ok: false,
+                left: 0,
+                due: 0,
+            };
         }
         acc = acc | s.stray;
         l = s.left;
@@ -172,7 +223,11 @@ fn mixed_block(bits: &[u64], words: &[u32], slots: &[u64], i: usize, left: u32, 
         bw = bw / 2;
         p += 1;
     }
-    State { ok: acc == 0, left: l, due: d }
+    State {
+        ok: acc == 0,
+        left: l,
+        due: d,
+    }
 }
 
 fn wide(x: u32) -> u64
@@ -199,7 +254,16 @@ fn free_block(bits: &[u64], words: &[u32], slots: &[u64], i: usize) -> bool
 }
 
 // The 64 pages of page-bit word i. Free ones take the shorter way, which has no branch a page.
-fn block(bits: &[u64], words: &[u32], slots: &[u64], i: usize, left: u32, due: u32, masks: &[u64; 240], behinds: &[u32; 30]) -> State
+fn block(
+    bits: &[u64],
+    words: &[u32],
+    slots: &[u64],
+    i: usize,
+    left: u32,
+    due: u32,
+    masks: &[u64; 240],
+    behinds: &[u32; 30],
+) -> State
     requires { ⌜ (i < 128) × (i < length (now bits)) × (64 * i + 64 ≤ length (now words)) × (512 * i + 512 ≤ length (now slots)) × (now masks ≡ maskTable) × (Behinds (now behinds)) × (Ready left due) ⌝ }
     ensures { λ r. ⌜ Swept (pool (now (bits .entry)) (now (words .entry)) (now (slots .entry))) i left due (r .ok) (r .left) (r .due) ⌝ }
 {
@@ -207,7 +271,11 @@ fn block(bits: &[u64], words: &[u32], slots: &[u64], i: usize, left: u32, due: u
         if i % 8 != 0 {
             if bits[i] == 0 {
                 let ok = free_block(bits, words, slots, i);
-                return State { ok: ok, left: 0, due: 0 };
+                return State {
+                    ok: ok,
+                    left: 0,
+                    due: 0,
+                };
             }
         }
     }

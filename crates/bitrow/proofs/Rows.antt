@@ -4,7 +4,7 @@ use mathlib.Core.Path.{_≡_, refl, sym, ap, ap₂, _∙_, subst}
 use mathlib.Core.Logic.{_⊎_, inl, inr, ⊎-elim}
 use mathlib.Core.Bool.{Bool, cond}
 use mathlib.Core.List.{List}
-use Prim.Native.Nat.{ℕ, zero, suc, _+_, _-_, _/_, _%_, _^_, _≤_, _<_}
+use Prim.Native.Nat.{ℕ, zero, suc, _+_, _-_, _/_, _%_, _^_, _≤_, _<_, min}
 use native.Mathlib.Nat.{add-sub-of-le, eq-zero-or-pos, eq-or-lt-of-le, add-zero, zero-add, suc-add}
 use native.Mathlib.Omega.{arith}
 use borrow.Author.Tests.{eq-eqb, ne-eqb}
@@ -57,28 +57,41 @@ unfolding nextBit
 next-here v ws i zero h = refl
 next-here v ws i (suc m) h = ap (λ (b : Bool). cond b i (nextBit v ws (i + 1) m)) (eq-eqb (bitAt ws i) v (h (omega arith)))
 
-pub next-none : (v : ℕ) (ws : List ℕ) (i m : ℕ) → m ≡ 0 → nextBit v ws i m ≡ i
-next-none v ws i m e = next-here v ws i m (λ l. absurd (omega arith))
+-- ---- a turn of the loop, which may end behind `to`: t is the place of the lowest bit v in what is left of q's word
 
--- ---- a turn of the loop: t is the place of the lowest bit v in what is left of q's word, and m of the places up to `to` lie in that word
+-- the search from q on, and `to` where q lies behind it
+abbrev pub nextFrom : ℕ → List ℕ → ℕ → ℕ → ℕ
+nextFrom v ws q to = nextBit v ws (min q to) (to - q)
 
-module _ (v : ℕ) (ws : List ℕ) (q to t m : ℕ) (v01 : v < 2) (f : Lowest 64 (rest ws q) v t) (l : q % 64 + m ≤ 64) (room : q + m ≤ to) where
-  passed : (e : ℕ) → e ≤ t → e ≤ m → (i : ℕ) → q ≤ i → i < q + e → bitAt ws i ≡ 1 - v
+pub next-from : (v : ℕ) (ws : List ℕ) (q to : ℕ) → q ≤ to → nextFrom v ws q to ≡ nextBit v ws q (to - q)
+next-from v ws q to l = ap (λ (x : ℕ). nextBit v ws x (to - q)) (omega arith)
+
+pub next-end : (v : ℕ) (ws : List ℕ) (q to : ℕ) → to ≤ q → nextFrom v ws q to ≡ to
+next-end v ws q to l = next-here v ws (min q to) (to - q) (λ h. absurd (omega arith)) ∙ omega arith
+
+module _ (v : ℕ) (ws : List ℕ) (q to t : ℕ) (v01 : v < 2) (room : q < to) (f : Lowest 64 (rest ws q) v t) where
+  passed : (e : ℕ) → e ≤ t → q % 64 + e ≤ 64 → (i : ℕ) → q ≤ i → i < q + e → bitAt ws i ≡ 1 - v
   passed e a b i x y =
       subst (λ (z : ℕ). bitAt ws z ≡ 1 - v) (add-sub-of-le x) (bit-rest ws q (i - q) (omega arith) ∙ f .below (i - q) (omega arith))
 
-  skip : (e : ℕ) → e ≤ t → e ≤ m → nextBit v ws q (to - q) ≡ nextBit v ws (q + e) (to - (q + e))
+  -- e places of the word are passed, and those of them behind `to` do not count
+  skip : (e : ℕ) → e ≤ t → q % 64 + e ≤ 64 → nextFrom v ws q to ≡ nextFrom v ws (q + e) to
   skip e a b =
-      let whole : to - q ≡ e + (to - (q + e)) = omega arith in
-      ap (nextBit v ws q) whole ∙ next-skip v e ws q (to - (q + e)) v01 (passed e a b)
+      let d : ℕ = min e (to - q) in
+      let whole : to - q ≡ d + (to - (q + e)) = omega arith in
+      let there : q + d ≡ min (q + e) to = omega arith in
+      next-from v ws q to (omega arith) ∙ ap (nextBit v ws q) whole
+      ∙ next-skip v d ws q (to - (q + e)) v01 (passed d (omega arith) (omega arith))
+      ∙ ap (λ (x : ℕ). nextBit v ws x (to - (q + e))) there
 
-  pub next-inside : t < m → nextBit v ws q (to - q) ≡ q + t
+  pub next-inside : t < 64 - q % 64 → nextFrom v ws q to ≡ min (q + t) to
   next-inside h =
       skip t (omega arith) (omega arith)
-      ∙ next-here v ws (q + t) (to - (q + t)) (λ _. bit-rest ws q t (omega arith) ∙ f .here (omega arith))
+      ∙ next-here v ws (min (q + t) to) (to - (q + t))
+      (λ l. ap (bitAt ws) (omega arith) ∙ bit-rest ws q t (omega arith) ∙ f .here (omega arith))
 
-  pub next-passed : m ≤ t → nextBit v ws q (to - q) ≡ nextBit v ws (q + m) (to - (q + m))
-  next-passed h = skip m h (omega arith)
+  pub next-passed : 64 - q % 64 ≤ t → nextFrom v ws q to ≡ nextFrom v ws (q + (64 - q % 64)) to
+  next-passed h = skip (64 - q % 64) h (omega arith)
 
 -- ---- what the definition finds
 

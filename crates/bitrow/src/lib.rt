@@ -36,31 +36,30 @@ pub fn first_bit(w: u64, v: bool) -> u32
     if v { first_one(w) } else { first_zero(w) }
 }
 
-// How many of the places i..to lie in the word of place i. Every loop below goes by this step, so that it takes a whole word at a time
-// and never passes `to`.
-fn in_word(i: usize, to: usize) -> usize
-    requires { ⌜ i ≤ to ⌝ }
-    ensures { λ r. ⌜ r ≡ min (to - i) (64 - i % 64) ⌝ }
+// The lesser of two numbers.
+fn least(a: usize, b: usize) -> usize
+    ensures { λ r. ⌜ r ≡ min a b ⌝ }
 {
-    let left = 64 - i % 64;
-    if to - i < left { to - i } else { left }
+    if a < b { a } else { b }
 }
 
-// The first place in from..to whose bit is v, or `to` where there is none. The shift brings zeros in from the top, which lie behind the m
-// places that count.
+// The first place in from..to whose bit is v, or `to` where there is none. The shift brings zeros in from the top: a bit found among
+// those is in no place of the word, so only one below `left` counts. The last word is read to its end, and what lies behind `to` is cut
+// off at the return: so a turn needs no second bound, and long searches are quicker.
 pub fn next_bit(words: &[u64], from: usize, to: usize, v: bool) -> usize
     requires { ⌜ (from ≤ to) × (to ≤ 64 * length (now words)) × (to < 2 ^ 32) ⌝ }
     ensures { λ r. ⌜ r ≡ nextBit (digit v) (now (words .entry)) from (to - from) ⌝ }
 {
     let mut q = from;
     while q < to {
-        let m = in_word(q, to);
+        let o = q % 64;
+        let left = 64 - o;
         let w = words[q / 64];
-        let t = first_bit(w >> (q % 64), v) as usize;
-        if t < m {
-            return q + t;
+        let t = first_bit(w >> o, v) as usize;
+        if t < left {
+            return least(q + t, to);
         }
-        q = q + m;
+        q = q + left;
     }
     to
 }
@@ -99,7 +98,7 @@ pub fn put_bit(words: &mut [u64], i: usize, v: bool)
     put_in_word(words, i, 1, v);
 }
 
-// Puts v at the n places from `from` on.
+// Puts v at the n places from `from` on, a word or the part of one at a time.
 pub fn put_bits(words: &mut [u64], from: usize, n: usize, v: bool)
     requires { ⌜ (from + n ≤ 64 * length (now words)) × (from + n < 2 ^ 32) ⌝ }
     ensures { λ _. ⌜ now (words .exit) ≡ putBits (digit v) (now (words .entry)) from n ⌝ }
@@ -107,13 +106,13 @@ pub fn put_bits(words: &mut [u64], from: usize, n: usize, v: bool)
     let to = from + n;
     let mut i = from;
     while i < to {
-        let m = in_word(i, to);
+        let m = least(to - i, 64 - i % 64);
         put_in_word(words, i, m, v);
         i = i + m;
     }
 }
 
-// How many of the n bits from `from` on are 1.
+// How many of the n bits from `from` on are 1, a word or the part of one at a time.
 pub fn count_bits(words: &[u64], from: usize, n: usize) -> usize
     requires { ⌜ (from + n ≤ 64 * length (now words)) × (from + n < 2 ^ 32) ⌝ }
     ensures { λ r. ⌜ r ≡ countBits (now (words .entry)) from n ⌝ }
@@ -123,7 +122,7 @@ pub fn count_bits(words: &[u64], from: usize, n: usize) -> usize
     let mut i = from;
     while i < to {
         let o = i % 64;
-        let m = in_word(i, to);
+        let m = least(to - i, 64 - o);
         let b = mask(o, m);
         sum = sum + u64::count_ones(words[i / 64] & b) as usize;
         i = i + m;

@@ -1,5 +1,5 @@
 -- A buffer that is written from its start, and the records that it makes. Assumes nothing.
-use mathlib.Core.Path.{_≡_, refl, sym, ap, ap₂, _∙_}
+use mathlib.Core.Path.{_≡_, refl, sym, ap, _∙_}
 use mathlib.Core.Logic.{by-cases}
 use mathlib.Core.Bool.{Bool, true, false, cond}
 use mathlib.Core.List.{List, [], _∷_}
@@ -44,8 +44,8 @@ filled-more {m} {v} {n} {k} {l} x f h e =
     record {
       long = length-set l k x ∙ f .long;
       at = λ i a. by-cases (ℕ-discrete i k)
-        (λ q. ap (λ (j : ℕ). getD (set l k x) j 0) q ∙ getD-set-same l k x 0 h ∙ e ∙ ap (each m v) (sym q))
-        (λ q. getD-set-other l k i x 0 q ∙ f .at i (omega arith))
+          (λ q. ap (λ (j : ℕ). getD (set l k x) j 0) q ∙ getD-set-same l k x 0 h ∙ e ∙ ap (each m v) (sym q))
+          (λ q. getD-set-other l k i x 0 q ∙ f .at i (omega arith));
     }
 
 pub filled-done : {m v n k : ℕ} {l : List ℕ} → Filled m v n k l → length l ≤ k → Filled m v n n l
@@ -57,6 +57,9 @@ filled-is : {m v n : ℕ} {l : List ℕ} (r : List ℕ) → Filled m v n n l →
 filled-is {m} {v} {n} {l} r f e h =
     ext-getD 0 l r (f .long ∙ sym e) (λ i a. let b : i < n = omega (arith, f .long) in f .at i b ∙ sym (h i b))
 
+same-pool : {n : ℕ} {b b′ w w′ s s′ : List ℕ} → b ≡ b′ → w ≡ w′ → s ≡ s′ → leaves n (pool b w s) ≡ leaves n (pool b′ w′ s′)
+same-pool e f g = cc
+
 pub fresh-made : (c : ℕ) (p : Pool) (b w s : List ℕ) (t : Bool) → t ≡ fit c p → t ≡ true → Filled 8 1 (length (p .bits)) (length (p .bits)) b
     → Filled 512 0x40000001 (length (p .words)) (length (p .words)) w → Filled 8 0 (length (p .slots)) (length (p .slots)) s
     → leaves 0 (pool b w s) ≡ freshOf c p
@@ -64,15 +67,13 @@ unfolding freshOf freshPool each
 fresh-made c p b w s t e v x y z =
     let l = shaped-lengths c (length (p .bits)) (length (p .words)) (length (p .slots)) (sym e ∙ v) in
     let bits : b ≡ repeat c (1 ∷ zeros 7) =
-          filled-is (repeat c (1 ∷ zeros 7)) x (length-repeat c 8 (1 ∷ zeros 7) refl ∙ sym (l .bits-long)) (λ i a. fresh-bits c i (omega arith)) in
+    filled-is (repeat c (1 ∷ zeros 7)) x (length-repeat c 8 (1 ∷ zeros 7) refl ∙ sym (l .bits-long)) (λ i a. fresh-bits c i (omega arith)) in
     let words : w ≡ repeat c (0x40000001 ∷ zeros 511) =
-          filled-is (repeat c (0x40000001 ∷ zeros 511)) y (length-repeat c 512 (0x40000001 ∷ zeros 511) (ap (1 +_) (length-zeros 511)) ∙ sym (l .words-long))
-          (λ i a. fresh-words c i (omega arith)) in
+    filled-is (repeat c (0x40000001 ∷ zeros 511)) y (length-repeat c 512 (0x40000001 ∷ zeros 511) (ap (1 +_) (length-zeros 511)) ∙ sym (l .words-long))
+    (λ i a. fresh-words c i (omega arith)) in
     let slots : s ≡ zeros (4096 * c) =
-          filled-is (zeros (4096 * c)) z (length-zeros (4096 * c) ∙ sym (l .slots-long)) (λ i a. getD-zeros (4096 * c) i ∙ sym (each-zero 8 i)) in
-    ap₂ (λ (q : List ℕ) (r : List ℕ). leaves 0 (pool q r s)) bits words
-    ∙ ap (λ (q : List ℕ). leaves 0 (pool (repeat c (1 ∷ zeros 7)) (repeat c (0x40000001 ∷ zeros 511)) q)) slots
-    ∙ sym (ap (λ (q : Bool). cond q (leaves 0 (freshPool c)) (leaves 1 p)) (sym e ∙ v))
+    filled-is (zeros (4096 * c)) z (length-zeros (4096 * c) ∙ sym (l .slots-long)) (λ i a. getD-zeros (4096 * c) i ∙ sym (each-zero 8 i)) in
+    same-pool bits words slots ∙ sym (ap (λ (q : Bool). cond q (leaves 0 (freshPool c)) (leaves 1 p)) (sym e ∙ v))
 
 pub fresh-not : (c : ℕ) (p : Pool) (t : Bool) → t ≡ fit c p → t ≡ false → leaves 1 p ≡ freshOf c p
 unfolding freshOf

@@ -32,7 +32,7 @@ module _ (c nbits nwords nslots : ℕ) where
         few = leb-true c 16 (and-left (leb c 16) _ e₁);
         bits-long = eqb-true nbits (8 * c) (and-left (eqb nbits (8 * c)) _ e₂);
         words-long = eqb-true nwords (512 * c) (and-left (eqb nwords (512 * c)) _ e₃);
-        slots-long = eqb-true nslots (4096 * c) (and-right (eqb nwords (512 * c)) _ e₃)
+        slots-long = eqb-true nslots (4096 * c) (and-right (eqb nwords (512 * c)) _ e₃);
       }
 
   pub lengths-shaped : Lengths c nbits nwords nslots → true ≡ shaped c nbits nwords nslots

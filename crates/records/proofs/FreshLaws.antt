@@ -96,8 +96,8 @@ module _ (c g : ℕ) (h : g < 512 * c) where
   free-clear n =
       ap (λ (x : ℕ). eqb x 1)
       (by-cases (ℕ-discrete (g / 64 % 8) 0)
-        (λ q. ap (λ (w : ℕ). bit w (g % 64)) (word 1 (ap (λ (t : Bool). cond t 1 0) (eq-eqb (g / 64 % 8) 0 q))) ∙ one-bit (g % 64) (λ r. n (omega arith)))
-        (λ q. ap (λ (w : ℕ). bit w (g % 64)) (word 0 (ap (λ (t : Bool). cond t 1 0) (ne-eqb (g / 64 % 8) 0 q))) ∙ no-bit (g % 64)))
+      (λ q. ap (λ (w : ℕ). bit w (g % 64)) (word 1 (ap (λ (t : Bool). cond t 1 0) (eq-eqb (g / 64 % 8) 0 q))) ∙ one-bit (g % 64) (λ r. n (omega arith)))
+      (λ q. ap (λ (w : ℕ). bit w (g % 64)) (word 0 (ap (λ (t : Bool). cond t 1 0) (ne-eqb (g / 64 % 8) 0 q))) ∙ no-bit (g % 64)))
       ∙ ne-eqb 0 1 (omega arith)
 
   pub fresh-edge : g % 512 ≡ 0 → kindAt (freshPool c) g ≡ edge

@@ -57,7 +57,7 @@ kind-low false false w = eq-cases Low w 0 (λ a. tt) (λ a. tt)
 kind-low false true w =
     le-cases Low 0xC0000000 w (λ a. tt)
     (λ a. le-cases Low 0x80000000 w (λ b. lt-cases Low w 0x8000001E (λ d. omega arith) (λ d. tt))
-      (λ b. le-cases Low 0x40000001 w (λ d. lt-cases Low w 0x40000200 (λ e. tt) (λ e. tt)) (λ d. eq-cases Low w 0 (λ e. tt) (λ e. tt))))
+    (λ b. le-cases Low 0x40000001 w (λ d. lt-cases Low w 0x40000200 (λ e. tt) (λ e. tt)) (λ d. eq-cases Low w 0 (λ e. tt) (λ e. tt))))
 
 pub class-at-low : (p : Pool) (g b : ℕ) → kindAt p g ≡ class b → b < 30
 unfolding kindAt
@@ -114,7 +114,7 @@ walk-run K N g h l s =
     record {
       ends = omega arith;
       word = λ i. getD (n .due) (i - suc g) 0;
-      rest = λ i x y. let r : i ≡ suc g + (i - suc g) = omega arith in ap K r ∙ f (i - suc g) (omega arith)
+      rest = λ i x y. let r : i ≡ suc g + (i - suc g) = omega arith in ap K r ∙ f (i - suc g) (omega arith);
     }
 
 -- ---- the claims
@@ -171,8 +171,8 @@ module _ (c : ℕ) (p : Pool) (s : sound c p ≡ true) where
       let f = h .fits in let n = h .below in
       let m : behind b ≡ length (h .words) = sym (length-inner b 1 (behind b)) ∙ ap length (Option·some-injective _ _ x) in
       let v : w ≡ 0xC0000000 + 65536 * (1 + (g - suc (h .first))) + b =
-            h .word ∙ ap (λ (l : List ℕ). getD l (g - suc (h .first)) 0) (sym (Option·some-injective _ _ x))
-            ∙ getD-inner b 1 (behind b) (g - suc (h .first)) (omega arith) in
+      h .word ∙ ap (λ (l : List ℕ). getD l (g - suc (h .first)) 0) (sym (Option·some-injective _ _ x))
+      ∙ getD-inner b 1 (behind b) (g - suc (h .first)) (omega arith) in
       (b, e, omega arith, omega arith)
   home-class g w l h (inner v) e x = absurd (Option·none-ne-some _ x)
 
@@ -189,16 +189,16 @@ module _ (c : ℕ) (p : Pool) (s : sound c p ≡ true) where
       let w : ℕ = 0xC0000000 + 65536 * k + b in
       ⊎-elim (λ x. absurd (omega (arith, x .0)))
       (λ (h : Home (kindAt p) 0 g (0xC0000000 + 65536 * k + b)).
-        let (a, q, v, u) = home-class g (0xC0000000 + 65536 * k + b) (omega arith) h (kindAt p (h .first)) refl (h .begins) in
-        let n = h .below in
-        let low = class-at-low p (h .first) a q in
-        let r : h .first ≡ g - k = omega arith in
-        let z : a ≡ b = omega arith in
-        let kind : kindAt p (g - k) ≡ class b = ap (kindAt p) (sym r) ∙ q ∙ ap class z in
-        let span : spanOf (kindAt p (g - k)) ≡ suc (behind a) = ap spanOf kind ∙ ap (λ (x : ℕ). suc (behind x)) (sym z) in
-        (omega arith, kind, record { low = omega arith; high = omega arith }))
+      let (a, q, v, u) = home-class g (0xC0000000 + 65536 * k + b) (omega arith) h (kindAt p (h .first)) refl (h .begins) in
+      let n = h .below in
+      let low = class-at-low p (h .first) a q in
+      let r : h .first ≡ g - k = omega arith in
+      let z : a ≡ b = omega arith in
+      let kind : kindAt p (g - k) ≡ class b = ap (kindAt p) (sym r) ∙ q ∙ ap class z in
+      let span : spanOf (kindAt p (g - k)) ≡ suc (behind a) = ap spanOf kind ∙ ap (λ (x : ℕ). suc (behind x)) (sym z) in
+      (omega arith, kind, record { low = omega arith; high = omega arith }))
       (walk-home (kindAt p) (512 * c) [] 0 g (0xC0000000 + 65536 * k + b) steps (omega arith) (omega arith)
-        (inner-at g (0xC0000000 + 65536 * k + b) l e (omega arith)))
+      (inner-at g (0xC0000000 + 65536 * k + b) l e (omega arith)))
 
   pub sound-runs : Runs c p
   sound-runs = record { apart = runs-apart; inside = runs-inside; off = runs-off; back = runs-back }

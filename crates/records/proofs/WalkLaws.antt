@@ -42,6 +42,7 @@ walk-next K st g n h = go (step st (K g)) refl (split st h)
     split : (l : List ℕ) → walk K l g (suc n) ≡ true → follow (step l (K g)) (λ u. walk K u (suc g) n) ≡ true
     split [] x = x
     split (w ∷ ws) x = x
+
     go : (o : Option (List ℕ)) → step st (K g) ≡ o → follow o (λ u. walk K u (suc g) n) ≡ true → Goes K st g n
     go none e x = absurd (false≢true x)
     go (some t) e x = record { due = t; steps = e; walks = x }
@@ -75,7 +76,7 @@ sound-from p (suc n) st g e =
         let s = ih t x in
         record {
           walks = walk-step (kindAt p) st t g n q ∙ s .walks;
-          tidy = λ i a b. by-cases (ℕ-discrete i g) (λ r. ap (clean p) r ∙ c) (λ r. s .tidy i (omega arith) (omega arith))
+          tidy = λ i a b. by-cases (ℕ-discrete i g) (λ r. ap (clean p) r ∙ c) (λ r. s .tidy i (omega arith) (omega arith));
         }
 
 pub from-sound : (p : Pool) (n : ℕ) (st : List ℕ) (g : ℕ) → Sound p st g n → soundFrom p st g n ≡ true
@@ -168,6 +169,7 @@ walk-home K (suc n) st s j w h a b e =
         let value : w ≡ v = cc in
         let place : j - s ≡ 0 = omega arith in
         inl (omega arith, rw place value)
+
     behind : (l t : List ℕ) → j ≢ s → step l (K s) ≡ some t → ((j - suc s < length t) × (w ≡ getD t (j - suc s) 0)) ⊎ Home K (suc s) j w
         → ((j - s < length l) × (w ≡ getD l (j - s) 0)) ⊎ Home K s j w
     behind l t q x (inr h) =

@@ -1,8 +1,10 @@
 -- `bitrow::count_bits` meets its contract. The loop's invariant: the sum and the count from i on make the whole count.
 -- Assumes nothing.
 use mathlib.Core.Path.{_≡_, refl, sym, ap, _∙_}
+use mathlib.Core.List.{List}
 use Prim.Native.Nat.{ℕ, _+_, _-_, _/_, _≤_}
 use native.Mathlib.Nat.{zero-add}
+use borrow.Author.Needs.{needs}
 use native.Mathlib.Omega.{arith}
 use lib.Bits.{bitAnd}
 use lib.Count.{ones}
@@ -27,16 +29,18 @@ add-to : tie.Need-add-to Inv-loop μ-loop
 add-to c = omega arith
 
 loop-holds : tie.Need-loop-holds Inv-loop μ-loop
-loop-holds c = (
-  refl,
-  omega arith,
-  omega arith,
-  omega arith,
-  zero-add (countBits (c .before .args .words .now) (c .before .args .from) _) ∙ ap (countBits (c .before .args .words .now) (c .before .args .from)) (omega arith),
-)
+loop-holds c =
+    let count = countBits (c .before .args .words .now) (c .before .args .from) in
+    (refl, omega arith, omega arith, omega arith, zero-add (count _) ∙ ap count (omega arith))
 
-in-word-requires : tie.Need-in-word-requires Inv-loop μ-loop
-in-word-requires c κs = omega arith
+sub-least : tie.Need-sub-least Inv-loop μ-loop
+sub-least c = omega arith
+
+sub-least-2 : tie.Need-sub-least-2 Inv-loop μ-loop
+sub-least-2 c = omega arith
+
+least-requires : tie.Need-least-requires Inv-loop μ-loop
+least-requires c κs = search needs
 
 mask-requires : tie.Need-mask-requires Inv-loop μ-loop
 mask-requires c κs = omega arith
@@ -47,20 +51,27 @@ mul-sum c = omega arith
 shared-slice-read-sum : tie.Need-shared-slice-read-sum Inv-loop μ-loop
 shared-slice-read-sum c = omega arith
 
--- what is added is the count of the m places of i's word
-counted : (c : tie.After-shared-slice-known2 Inv-loop μ-loop)
-    → countBits (c .before .before .before .before .before .before .args .words .now) (c .before .before .before .before .loop .i) (c .before .before .in-word .result)
-    ≡ ones (bitAnd (getD (c .before .before .before .before .before .before .args .words .now) (c .before .before .before .before .loop .i / 64) 0) (c .before .mask .result))
-counted c =
-    let ws = c .before .before .before .before .before .before .args .words .now in
-    let i = c .before .before .before .before .loop .i in
-    count-word ws i (c .before .before .in-word .result) (omega arith)
-    ∙ ap (λ (b : ℕ). ones (bitAnd (getD ws (i / 64) 0) b)) (sym (c .before .mask .ensures))
+-- in a turn of the loop: the row, the place, and how many places of its word are counted
+abbrev Turn : Type 0
+Turn = tie.After-shared-slice-known2 Inv-loop μ-loop
 
-few : (c : tie.After-shared-slice-known2 Inv-loop μ-loop)
-    → countBits (c .before .before .before .before .before .before .args .words .now) (c .before .before .before .before .loop .i) (c .before .before .in-word .result)
-    ≤ c .before .before .in-word .result
-few c = count-le (c .before .before .in-word .result) _ _
+abbrev row : Turn → List ℕ
+row c = c .before .before .before .before .before .before .args .words .now
+
+abbrev place : Turn → ℕ
+place c = c .before .before .before .before .loop .i
+
+abbrev part : Turn → ℕ
+part c = c .before .before .least .result
+
+-- what is added is their count, and so at most their number
+counted : (c : Turn) → countBits (row c) (place c) (part c) ≡ ones (bitAnd (getD (row c) (place c / 64) 0) (c .before .mask .result))
+counted c =
+    count-word (row c) (place c) (part c) (omega arith)
+    ∙ ap (λ (b : ℕ). ones (bitAnd (getD (row c) (place c / 64) 0) b)) (sym (c .before .mask .ensures))
+
+few : (c : Turn) → countBits (row c) (place c) (part c) ≤ part c
+few c = count-le (part c) (row c) (place c)
 
 cast-sum : tie.Need-cast-sum Inv-loop μ-loop
 cast-sum c = omega (arith, counted c, few c)
@@ -77,12 +88,19 @@ loop-less c = omega arith
 loop-again : tie.Need-loop-again Inv-loop μ-loop
 loop-again c =
     let start = c .before .before .before .before .before .before in
-    let l = c .before .before .before .before .loop in
-    let step = count-turn (start .args .words .now) (l .i) (c .before .before .in-word .result) (start .args .from + start .args .n) (omega arith) in
-    (refl, omega arith, omega arith, omega (arith, counted c, few c), omega (arith, counted c, step, l .inv .4))
+    let step = count-turn (row c) (place c) (part c) (start .args .from + start .args .n) (omega arith) in (
+      refl,
+      omega arith,
+      omega arith,
+      omega (arith, counted c, few c),
+      omega (arith, counted c, step, c .before .before .before .before .loop .inv .4),
+    )
 
 returns : tie.Need-returns Inv-loop μ-loop
-returns c = omega (arith, count-none (c .before .before .before .args .words .now) (c .before .loop .i) (c .before .before .before .args .from + c .before .before .before .args .n - c .before .loop .i) (omega arith))
+returns c =
+    let start = c .before .before .before in
+    let i = c .before .loop .i in
+    omega (arith, count-none (start .args .words .now) i (start .args .from + start .args .n - i) (omega arith))
 
 pub count-bits-spec : {M : Type 1} → statement M
 count-bits-spec =
@@ -92,7 +110,9 @@ count-bits-spec =
     μ-loop
     add-to
     loop-holds
-    in-word-requires
+    sub-least
+    sub-least-2
+    least-requires
     mask-requires
     mul-sum
     shared-slice-read-sum

@@ -2,6 +2,7 @@
 -- Assumes nothing.
 use mathlib.Core.Path.{_≡_, refl, sym, ap, _∙_}
 use Prim.Native.Nat.{_+_, _-_, _≤_}
+use borrow.Author.Needs.{needs}
 use native.Mathlib.Omega.{arith}
 use lib.ListN.{length}
 use Rattle.bitrow.specs.Row.{digit, putBits}
@@ -31,8 +32,14 @@ loop-holds c = (
   ap (putBits (digit (c .before .args .v)) (c .before .args .words .now) (c .before .args .from)) (omega arith),
 )
 
-in-word-requires : tie.Need-in-word-requires Inv-loop μ-loop
-in-word-requires c κs = omega arith
+sub-least : tie.Need-sub-least Inv-loop μ-loop
+sub-least c = omega arith
+
+sub-least-2 : tie.Need-sub-least-2 Inv-loop μ-loop
+sub-least-2 c = omega arith
+
+least-requires : tie.Need-least-requires Inv-loop μ-loop
+least-requires c κs = search needs
 
 put-in-word-requires : tie.Need-put-in-word-requires Inv-loop μ-loop
 put-in-word-requires c κs = omega arith
@@ -47,7 +54,7 @@ loop-again : tie.Need-loop-again Inv-loop μ-loop
 loop-again c =
     let start = c .before .before .before .before .before .before .before .before in
     let l = c .before .before .before .before .before .before .loop in
-    let m = c .before .before .before .before .in-word .result in
+    let m = c .before .before .before .before .least .result in
     let v = digit (start .args .v) in
     let e = c .before .before .put-in-word .ensures in (
       refl,
@@ -70,7 +77,9 @@ put-bits-spec =
     μ-loop
     add-to
     loop-holds
-    in-word-requires
+    sub-least
+    sub-least-2
+    least-requires
     put-in-word-requires
     add-i
     loop-less

@@ -1,0 +1,87 @@
+#define _DEFAULT_SOURCE /* MAP_ANONYMOUS */
+
+#include "lent.h"
+
+#include <stdio.h>
+#include <stdlib.h>
+#include <string.h>
+#include <sys/mman.h>
+#include <unistd.h>
+
+static size_t system_page(void)
+{
+    return (size_t)sysconf(_SC_PAGESIZE);
+}
+
+/* The bytes of the whole system pages that hold so many bytes. */
+static size_t whole_pages(size_t bytes)
+{
+    return (bytes + system_page() - 1) / system_page() * system_page();
+}
+
+static void *guarded_new(size_t bytes)
+{
+    size_t usable = whole_pages(bytes);
+    char *start = mmap(NULL, usable + system_page(), PROT_READ | PROT_WRITE,
+                       MAP_PRIVATE | MAP_ANONYMOUS, -1, 0);
+
+    if (start == MAP_FAILED || mprotect(start + usable, system_page(), PROT_NONE) != 0) {
+        perror("buffers for the tests");
+        exit(2);
+    }
+    return start + usable - bytes;
+}
+
+static void guarded_free(void *buffer, size_t bytes)
+{
+    size_t usable = whole_pages(bytes);
+
+    munmap((char *)buffer + bytes - usable, usable + system_page());
+}
+
+static size_t bits_bytes(size_t c)
+{
+    return c * BIT_WORDS * sizeof(uint64_t);
+}
+
+static size_t words_bytes(size_t c)
+{
+    return c * PAGES * sizeof(uint32_t);
+}
+
+static size_t slots_bytes(size_t c)
+{
+    return c * SLOT_WORDS * sizeof(uint64_t);
+}
+
+struct records lent_new(size_t c)
+{
+    struct records r;
+
+    r.c = c;
+    r.bits = guarded_new(bits_bytes(c));
+    r.words = guarded_new(words_bytes(c));
+    r.slots = guarded_new(slots_bytes(c));
+    return r;
+}
+
+void lent_free(struct records *r)
+{
+    guarded_free(r->bits, bits_bytes(r->c));
+    guarded_free(r->words, words_bytes(r->c));
+    guarded_free(r->slots, slots_bytes(r->c));
+}
+
+void lent_copy(struct records *to, const struct records *from)
+{
+    memcpy(to->bits, from->bits, bits_bytes(from->c));
+    memcpy(to->words, from->words, words_bytes(from->c));
+    memcpy(to->slots, from->slots, slots_bytes(from->c));
+}
+
+bool lent_equal(const struct records *a, const struct records *b)
+{
+    return memcmp(a->bits, b->bits, bits_bytes(a->c)) == 0
+        && memcmp(a->words, b->words, words_bytes(a->c)) == 0
+        && memcmp(a->slots, b->slots, slots_bytes(a->c)) == 0;
+}

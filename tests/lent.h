@@ -1,0 +1,17 @@
+/*
+ * Buffers to lend. Each ends right before memory that no one may touch, so a
+ * call that reads or writes behind a buffer's last element stops the test.
+ */
+#ifndef LENT_H
+#define LENT_H
+
+#include "model.h"
+
+struct records lent_new(size_t c); /* all zero; ends the program if there is no memory */
+void lent_free(struct records *r);
+
+/* Both of the same c. */
+void lent_copy(struct records *to, const struct records *from);
+bool lent_equal(const struct records *a, const struct records *b);
+
+#endif
