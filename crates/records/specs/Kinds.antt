@@ -13,7 +13,9 @@ pub data Kind : Type 0 where
   edge free damaged : Kind
   large class inner : ℕ → Kind
 
--- What a word means: on page 0 of a chunk or another page, with the page's bit
+-- What a word means: on page 0 of a chunk or another page, with the page's bit. Of a taken page: from 0xC0000000 on a class run's page
+-- behind its first; 0x80000000 + b a run of class b; 0x40000000 + n a large run of n pages, 1 to 511; 0 a large run's page behind its
+-- first
 abbrev pub kindOf : Bool → Bool → ℕ → Kind
 kindOf true false w = damaged
 kindOf true true w = cond (eqb w 0x40000001) edge damaged
