@@ -1,17 +1,17 @@
 -- Slot words: the OR of words, masks, and the slot bits of a page. Assumes nothing.
 use mathlib.Core.Path.{_≡_, refl, sym, ap, ap₂, _∙_, subst}
-use mathlib.Core.Logic.{_≢_, by-cases}
-use mathlib.Core.Bool.{Bool, true, false, cond, _&&_, false≢true}
+use mathlib.Core.Logic.{by-cases}
+use mathlib.Core.Bool.{Bool, true, false, cond, _&&_}
 use mathlib.Core.List.{List, [], _∷_}
 use Prim.Native.Nat.{ℕ, zero, suc, _+_, _*_, _-_, _%_, _/_, _^_, _≤_, _<_}
 use native.Mathlib.Decide.{decLe, decLt, ℕ-discrete}
-use native.Mathlib.Nat.{zero-mul, div-eq-of-lt, div-one, zero-div}
+use native.Mathlib.Nat.{zero-mul, div-eq-of-lt, div-one}
 use native.Mathlib.Omega.{arith}
 use lib.Dec.{eqb, ltb}
 use lib.ListN.{length, getD, set, length-set}
 use lib.Seq.{getD-set-same, getD-set-other}
 use lib.Bits.{bitOr, bitAnd, or-add-and, and-le-l, and-le-r, and-high, and-zero-r}
-use lib.Pow.{pow-pos, pow-mono, shr-le, shr-mod, shr-shr}
+use lib.Pow.{pow-pos, pow-mono, shr-le, shr-mod}
 use borrow.Author.Tests.{eqb-true, eqb-false, eq-eqb, ne-eqb, ltb-true, lt-ltb}
 use Rattle.bitrow.specs.Row.{bit, bitAt, isSet}
 use Rattle.bitrow.proofs.Words.{bit-shr, bit-of-zero, bit-le}
@@ -19,7 +19,7 @@ use Rattle.bitrow.proofs.Ext.{word-ext}
 use Rattle.classes.specs.declared.Row.{Row}
 use Rattle.classes.specs.Classes.{rowOf, rows, rowAt, slots, pages}
 use Rattle.classes.proofs.ClassLaws.{row-facts}
-use Rattle.records.specs.Kinds.{Kind, behind, slotsOf}
+use Rattle.records.specs.Kinds.{behind, slotsOf}
 use Rattle.records.specs.Pool.{Pool, kindAt, slotAt}
 use Rattle.records.specs.Sound.{all, named, clean}
 use Rattle.records.proofs.Flags.{flag-eq, and-made, and-left, and-right, all-at, all-of}

@@ -1,11 +1,11 @@
 -- One page of the check, with the state as two numbers. Assumes nothing.
 use mathlib.Core.Path.{_≡_, refl, sym, ap, ap₂, _∙_, subst}
 use mathlib.Core.Logic.{_≢_, by-cases}
-use mathlib.Core.Bool.{Bool, true, false, cond, false≢true}
-use mathlib.Core.Option.{Option, none, some}
+use mathlib.Core.Bool.{Bool, true, false, false≢true}
+use mathlib.Core.Option.{none, some}
 use mathlib.Core.List.{List, [], _∷_}
 use Prim.Native.Nat.{ℕ, zero, suc, _+_, _*_, _-_, _≤_, _<_}
-use native.Mathlib.Decide.{decLe, ℕ-discrete}
+use native.Mathlib.Decide.{decLe, decLt, ℕ-discrete}
 use native.Mathlib.Omega.{arith}
 use lib.Dec.{eqb}
 use Rattle.classes.proofs.ClassLaws.{any-row}
@@ -72,12 +72,14 @@ run-other x xs w n =
 idle-free-bad : (w : ℕ) → w ≢ 0 → step [] (kindOf false false w) ≡ none
 idle-free-bad w h = ap (step []) (cond-ne w 0 free damaged h)
 
-idle-low : (w : ℕ) → w < 0x40000001 → step [] (kindOf false true w) ≡ none
-idle-low w h = by-cases (ℕ-discrete w 0) (λ e. ap (step []) (kind-zero w e)) (λ e. ap (step []) (kind-no-low w e h))
-
-idle-high : (w : ℕ) → 0x8000001E ≤ w → step [] (kindOf false true w) ≡ none
-idle-high w h =
-    by-cases (decLe 0xC0000000 w) (λ a. ap (step []) (kind-inner w a)) (λ a. ap (step []) (kind-no-class w h (omega arith)))
+idle-none : (w : ℕ) → (0x80000000 ≤ w → w < 0x8000001E → ⊥) → (0x40000001 ≤ w → w < 0x40000200 → ⊥) → step [] (kindOf false true w) ≡ none
+idle-none w n m =
+    by-cases (decLe 0xC0000000 w) (λ a. ap (step []) (kind-inner w a))
+    (λ a. by-cases (decLe 0x80000000 w)
+    (λ b. by-cases (decLt w 0x8000001E) (λ d. absurd (n b d)) (λ d. ap (step []) (kind-no-class w (omega arith) (omega arith))))
+    (λ b. by-cases (decLe 0x40000001 w)
+    (λ d. by-cases (decLt w 0x40000200) (λ e. absurd (m d e)) (λ e. ap (step []) (kind-no-large w (omega arith) (omega arith))))
+    (λ d. by-cases (ℕ-discrete w 0) (λ e. ap (step []) (kind-zero w e)) (λ e. ap (step []) (kind-no-low w e (omega arith))))))
 
 -- what the code's refusal says
 module _ (ss : List ℕ) (g left due w : ℕ) (ok : Bool) (left′ due′ x : ℕ) (bad : (ok ≡ false) × (left′ ≡ 0) × (due′ ≡ 0)) where
@@ -111,14 +113,8 @@ module _ (ss : List ℕ) (g left due w : ℕ) (ok : Bool) (left′ due′ x : �
   pub no-free-word : left ≡ 0 → w ≢ 0 → Paged ss g left due w false ok left′ due′ x
   no-free-word l h = between false (idle-free-bad w h) l
 
-  pub no-class : left ≡ 0 → 0x8000001E ≤ w → Paged ss g left due w true ok left′ due′ x
-  no-class l h = between true (idle-high w h) l
-
-  pub no-low : left ≡ 0 → w < 0x40000001 → Paged ss g left due w true ok left′ due′ x
-  no-low l h = between true (idle-low w h) l
-
-  pub no-large : left ≡ 0 → 0x40000200 ≤ w → w < 0x80000000 → Paged ss g left due w true ok left′ due′ x
-  no-large l h k = between true (ap (step []) (kind-no-large w h k)) l
+  pub no-run : left ≡ 0 → (0x80000000 ≤ w → w < 0x8000001E → ⊥) → (0x40000001 ≤ w → w < 0x40000200 → ⊥) → Paged ss g left due w true ok left′ due′ x
+  no-run l n m = between true (idle-none w n m) l
 
 -- ---- pages that fit
 

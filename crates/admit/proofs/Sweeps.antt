@@ -3,8 +3,8 @@ use mathlib.Core.Path.{_≡_, refl, sym, ap, ap₂, _∙_}
 use mathlib.Core.Logic.{_≢_, by-cases}
 use mathlib.Core.Bool.{Bool, true, false, cond, _&&_, and-false}
 use mathlib.Core.Option.{Option, none, some}
-use mathlib.Core.List.{List, [], _∷_}
-use Prim.Native.Nat.{ℕ, zero, suc, _+_, _*_, _-_, _%_, _/_, _^_, _≤_, _<_}
+use mathlib.Core.List.{List, []}
+use Prim.Native.Nat.{ℕ, zero, suc, _+_, _*_, _-_, _%_, _/_, _^_, _<_}
 use native.Mathlib.Decide.{ℕ-discrete}
 use native.Mathlib.Nat.{div-one, mul-mod-right}
 use native.Mathlib.Omega.{arith}
@@ -23,7 +23,7 @@ use Rattle.records.proofs.Flags.{cond-eq, cond-ne, eq-cases}
 use Rattle.records.proofs.KindLaws.{kind-large}
 use Rattle.records.proofs.WalkLaws.{sound-step}
 use Rattle.records.proofs.AdmitLaws.{admit-fit}
-use Rattle.admit.specs.Sweep.{after, coming, slotsClear, Ready, outcome, Paged, Swept}
+use Rattle.admit.specs.Sweep.{coming, slotsClear, Ready, outcome, Paged, Swept}
 use Rattle.admit.proofs.Clear.{or-none, page-clean}
 use Rattle.admit.proofs.Steps.{ready-none}
 

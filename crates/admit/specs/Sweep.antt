@@ -7,7 +7,7 @@ use mathlib.Core.Option.{Option, none, some}
 use Prim.Native.Nat.{ℕ, zero, suc, _+_, _-_, _*_, _/_, _^_, _<_, _≤_}
 use lib.Dec.{eqb}
 use lib.ListN.{getD}
-use Rattle.records.specs.Kinds.{Kind, kindOf, behind, slotsOf}
+use Rattle.records.specs.Kinds.{kindOf, behind, slotsOf}
 use Rattle.records.specs.Pool.{Pool}
 use Rattle.records.specs.Sound.{all, step, soundFrom}
 

@@ -90,6 +90,16 @@ fn after_word(due: u32) -> u32
     due + 65536
 }
 
+// Whether lo ≤ w < hi. Compiled to one comparison.
+fn in_range(w: u32, lo: u32, hi: u32) -> bool
+    ensures { λ r. ⌜ (r ≡ true → (lo ≤ w) × (w < hi)) × (r ≡ false → lo ≤ w → w < hi → ⊥) ⌝ }
+{
+    if w < lo {
+        return false;
+    }
+    w < hi
+}
+
 // One page that is not page 0 of its chunk. Stray slot bits are only gathered, so that a page costs no branch for them.
 fn page(
     w: u32,
@@ -120,6 +130,20 @@ fn page(
             stray: x,
         };
     }
+    if in_range(w, 0x80000000, 0x8000001E) {
+        if !taken {
+            return wrong();
+        }
+        let b = (w - 0x80000000) as usize;
+        let x = stray_slot(slots, g, masks, b);
+        let n = behinds[b];
+        return PageStep {
+            ok: true,
+            left: n,
+            due: w + 0x40010000,
+            stray: x,
+        };
+    }
     if !taken {
         if w != 0 {
             return wrong();
@@ -132,24 +156,7 @@ fn page(
             stray: x,
         };
     }
-    if 0x80000000 <= w {
-        if w < 0x8000001E {
-            let b = (w - 0x80000000) as usize;
-            let x = stray_slot(slots, g, masks, b);
-            let n = behinds[b];
-            return PageStep {
-                ok: true,
-                left: n,
-                due: w + 0x40010000,
-                stray: x,
-            };
-        }
-        return wrong();
-    }
-    if w < 0x40000001 {
-        return wrong();
-    }
-    if w < 0x40000200 {
+    if in_range(w, 0x40000001, 0x40000200) {
         let x = any_slot(slots, g);
         return PageStep {
             ok: true,

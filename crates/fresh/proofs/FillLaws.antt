@@ -2,7 +2,7 @@
 use mathlib.Core.Path.{_≡_, refl, sym, ap, _∙_}
 use mathlib.Core.Logic.{by-cases}
 use mathlib.Core.Bool.{Bool, true, false, cond}
-use mathlib.Core.List.{List, [], _∷_}
+use mathlib.Core.List.{List, _∷_}
 use Prim.Native.Nat.{ℕ, _+_, _*_, _%_, _<_, _≤_}
 use native.Mathlib.Decide.{ℕ-discrete}
 use native.Mathlib.Omega.{arith}
@@ -12,10 +12,10 @@ use lib.Seq.{ext-getD, getD-set-same, getD-set-other}
 use borrow.Author.Tests.{eq-eqb, ne-eqb}
 use Rattle.records.specs.Kinds.{zeros}
 use Rattle.records.specs.Pool.{Pool, pool}
-use Rattle.records.specs.Calls.{shaped, fit, Left, leaves, repeat, freshPool, freshOf}
+use Rattle.records.specs.Calls.{fit, leaves, repeat, freshPool, freshOf}
 use Rattle.records.proofs.KindLaws.{length-zeros, getD-zeros}
 use Rattle.records.proofs.FreshLaws.{length-repeat, fresh-bits, fresh-words}
-use Rattle.records.proofs.AdmitLaws.{Lengths, shaped-lengths}
+use Rattle.records.proofs.AdmitLaws.{shaped-lengths}
 use Rattle.fresh.specs.Fill.{each, Filled}
 
 pub each-is : (m v i : ℕ) → i % m ≡ 0 → v ≡ each m v i

@@ -1,10 +1,10 @@
 -- Fresh records are sound. Assumes nothing.
-use mathlib.Core.Path.{_≡_, refl, sym, ap, ap₂, _∙_, subst}
+use mathlib.Core.Path.{_≡_, refl, sym, ap, ap₂, _∙_}
 use mathlib.Core.Logic.{_≢_, by-cases}
 use mathlib.Core.Bool.{Bool, true, false, cond}
-use mathlib.Core.Option.{Option, some}
-use mathlib.Core.List.{List, [], _∷_, _++_}
-use Prim.Native.Nat.{ℕ, zero, suc, _+_, _-_, _*_, _/_, _%_, _^_, _≤_, _<_}
+use mathlib.Core.Option.{some}
+use mathlib.Core.List.{List, [], _∷_}
+use Prim.Native.Nat.{ℕ, zero, suc, _+_, _*_, _/_, _%_, _^_, _≤_, _<_}
 use native.Mathlib.Decide.{ℕ-discrete}
 use native.Mathlib.Nat.{div-eq-of-lt, zero-div, lt-of-lt-of-le}
 use native.Mathlib.Omega.{arith}
@@ -15,8 +15,8 @@ use lib.Seq.{getD-append-add}
 use borrow.Author.Tests.{eq-eqb, ne-eqb}
 use Rattle.bitrow.specs.Row.{bit, bitAt, isSet}
 use Rattle.records.specs.Kinds.{Kind, edge, free, kindOf, zeros, slotsOf}
-use Rattle.records.specs.Pool.{Pool, isEdge, kindAt, slotAt}
-use Rattle.records.specs.Sound.{all, named, clean, step, sound}
+use Rattle.records.specs.Pool.{isEdge, kindAt, slotAt}
+use Rattle.records.specs.Sound.{named, clean, step, sound}
 use Rattle.records.specs.Calls.{repeat, freshPool}
 use Rattle.records.proofs.Flags.{all-of}
 use Rattle.records.proofs.KindLaws.{length-zeros, getD-zeros, kind-edge, kind-free}

@@ -1,14 +1,13 @@
 -- What the words that are written mean, and what a taken page that begins nothing is. Assumes nothing.
-use mathlib.Core.Path.{_≡_, refl, sym, ap, _∙_, subst}
+use mathlib.Core.Path.{_≡_, refl, ap, _∙_}
 use mathlib.Core.Logic.{_≢_}
-use mathlib.Core.Bool.{Bool, true, false, cond, _&&_, false≢true, true≢false}
-use mathlib.Core.List.{List, [], _∷_}
+use mathlib.Core.Bool.{true, false, cond}
 use Prim.Native.Nat.{ℕ, zero, suc, _+_, _-_, _*_, _≤_, _<_}
 use native.Mathlib.Omega.{arith}
 use lib.Dec.{eqb, ltb}
-use lib.ListN.{length, getD, length-replicate, getD-replicate}
-use Rattle.records.specs.Kinds.{Kind, edge, free, damaged, large, class, inner, kindOf, zeros, behind, innerWords, wordsOf}
-use Rattle.records.proofs.Flags.{cond-eq, cond-ne, cond-lt, cond-nlt, cond-le, cond-nle, eq-cases, lt-cases, le-cases}
+use lib.ListN.{length, getD, length-replicate}
+use Rattle.records.specs.Kinds.{edge, free, damaged, large, class, inner, kindOf, zeros, innerWords}
+use Rattle.records.proofs.Flags.{cond-eq, cond-ne, cond-lt, cond-nlt, cond-le, cond-nle}
 
 pub length-zeros : (n : ℕ) → length (zeros n) ≡ n
 length-zeros n = length-replicate n 0

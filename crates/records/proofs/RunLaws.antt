@@ -1,23 +1,22 @@
 -- The runs of sound records lie apart, inside their chunks and off page 0. Assumes nothing.
 use mathlib.Core.Path.{_≡_, refl, sym, ap, _∙_, subst}
-use mathlib.Core.Logic.{_≢_, _⊎_, inl, inr, ⊎-elim, by-cases}
-use mathlib.Core.Bool.{Bool, true, false, cond, _&&_, false≢true, true≢false}
-use mathlib.Core.Option.{Option, none, some, Option·none-ne-some, Option·some-injective}
-use mathlib.Core.List.{List, [], _∷_}
-use Prim.Native.Nat.{ℕ, zero, suc, _+_, _-_, _*_, _/_, _%_, _≤_, _<_}
-use native.Mathlib.Decide.{ℕ-discrete, decLt, decLe}
+use mathlib.Core.Logic.{_≢_, _⊎_, ⊎-elim, by-cases}
+use mathlib.Core.Bool.{Bool, true, false}
+use mathlib.Core.Option.{some, Option·none-ne-some, Option·some-injective}
+use mathlib.Core.List.{List, []}
+use Prim.Native.Nat.{ℕ, suc, _+_, _-_, _*_, _/_, _%_, _≤_, _<_}
+use native.Mathlib.Decide.{ℕ-discrete, decLt}
 use native.Mathlib.Omega.{arith}
-use lib.Dec.{eqb}
 use lib.ListN.{length, getD}
-use borrow.Author.Tests.{eq-eqb, ne-eqb}
+use borrow.Author.Tests.{eq-eqb}
 use Rattle.bitrow.specs.Row.{isSet}
-use Rattle.records.specs.Kinds.{Kind, edge, free, damaged, large, class, inner, kindOf, zeros, behind, innerWords, wordsOf}
+use Rattle.records.specs.Kinds.{Kind, edge, free, damaged, large, class, inner, kindOf, behind}
 use Rattle.records.specs.Pool.{Pool, isEdge, kindAt}
 use Rattle.records.specs.Sound.{step, sound}
 use Rattle.records.specs.Runs.{spanOf, InRun, Runs}
 use Rattle.records.proofs.Flags.{eq-cases, lt-cases, le-cases}
 use Rattle.records.proofs.KindLaws.{length-zeros, getD-zeros, length-inner, getD-inner, kind-inner}
-use Rattle.records.proofs.WalkLaws.{walk, Goes, walk-next, Sound, sound-walks, walk-found, Begins, walk-at, Home, walk-home, walk-right}
+use Rattle.records.proofs.WalkLaws.{walk, walk-next, sound-walks, walk-found, Begins, walk-at, Home, walk-home, walk-right}
 
 -- ---- what a word can mean
 

@@ -1,19 +1,18 @@
 -- The pages of sound records, read upward: the walk over their kinds. Assumes nothing.
 use mathlib.Core.Path.{_≡_, refl, sym, ap, _∙_, subst}
-use mathlib.Core.Logic.{_≢_, _⊎_, inl, inr, ⊎-elim, by-cases}
-use mathlib.Core.Bool.{Bool, true, false, cond, _&&_, false≢true}
+use mathlib.Core.Logic.{_≢_, _⊎_, inl, inr, by-cases}
+use mathlib.Core.Bool.{Bool, true, false, _&&_, false≢true}
 use mathlib.Core.Option.{Option, none, some, Option·none-ne-some, Option·some-injective}
 use mathlib.Core.List.{List, [], _∷_}
 use Prim.Native.Nat.{ℕ, zero, suc, _+_, _-_, _*_, _≤_, _<_}
 use native.Mathlib.Decide.{ℕ-discrete}
 use native.Mathlib.Nat.{add-zero}
 use native.Mathlib.Omega.{arith}
-use lib.Dec.{eqb}
 use lib.ListN.{length, getD}
-use Rattle.records.specs.Kinds.{Kind, edge, free, damaged, large, class, inner, wordsOf}
+use Rattle.records.specs.Kinds.{Kind, edge, free, damaged, large, class, inner}
 use Rattle.records.specs.Pool.{Pool, kindAt}
-use Rattle.records.specs.Sound.{clean, tail, step, follow, soundFrom, sound}
-use Rattle.records.proofs.Flags.{flag-eq, and-made, and-left, and-right, cond-eq, eq-cases}
+use Rattle.records.specs.Sound.{clean, step, follow, soundFrom, sound}
+use Rattle.records.proofs.Flags.{and-made, and-left, and-right, eq-cases}
 
 -- ---- pages by their kinds alone
 

@@ -1,6 +1,6 @@
 -- Refusals 1 and 2, what a call leaves, and the fresh call (document 01, "Refusal numbers", "Taking and giving back").
 -- Assumes nothing.
-use mathlib.Core.Bool.{Bool, true, false, cond, _&&_}
+use mathlib.Core.Bool.{Bool, cond, _&&_}
 use mathlib.Core.List.{List, [], _∷_, _++_}
 use Prim.Native.Nat.{ℕ, zero, suc, _*_}
 use lib.Dec.{eqb, leb}

@@ -2,9 +2,8 @@
 use mathlib.Core.Path.{_≡_}
 use mathlib.Core.Logic.{_≢_}
 use mathlib.Core.Bool.{true}
-use Prim.Native.Nat.{ℕ, zero, suc, _+_, _-_, _*_, _/_, _%_, _≤_, _<_}
+use Prim.Native.Nat.{ℕ, suc, _+_, _-_, _*_, _/_, _%_, _≤_, _<_}
 use lib.ListN.{getD}
-use Rattle.classes.specs.Classes.{pages}
 use Rattle.records.specs.Kinds.{Kind, edge, free, damaged, large, class, inner, behind}
 use Rattle.records.specs.Pool.{Pool, kindAt}
 use Rattle.records.specs.Sound.{sound}

@@ -1,3 +1,4 @@
+-- `admit::admit` meets its contract. Assumes nothing.
 use mathlib.Core.Path.{_∙_, sym}
 use mathlib.Core.Bool.{true, false}
 use native.Mathlib.Omega.{arith}
@@ -7,10 +8,6 @@ use Rattle.admit.proofs.Sweeps.{admit-says}
 use borrow.Author.Needs.{needs}
 use Rattle.admit.proofs.admit.Statement.{statement}
 use Rattle.admit.proofs.admit.Tie as tie
-use Rattle.admit.proofs.admit.Reads as reads
-use Rattle.admit.proofs.admit.Lts as lts
-use Rattle.admit.proofs.pages_sound.Reads as pages-sound-reads
-use Rattle.records.proofs.is_shaped.Reads as is-shaped-reads
 
 is-shaped-requires : tie.Need-is-shaped-requires
 is-shaped-requires c κs = search needs

@@ -1,9 +1,8 @@
+-- `admit::after_word` meets its contract. Assumes nothing.
 use Rattle.admit.proofs.Steps.{after-zero, after-more}
 use borrow.Author.Needs.{needs}
 use Rattle.admit.proofs.after_word.Statement.{statement}
 use Rattle.admit.proofs.after_word.Tie as tie
-use Rattle.admit.proofs.after_word.Reads as reads
-use Rattle.admit.proofs.after_word.Lts as lts
 
 returns : tie.Need-returns
 returns c = after-zero _ (c .if1 .taken)

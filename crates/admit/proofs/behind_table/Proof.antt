@@ -1,15 +1,11 @@
-use mathlib.Core.Path.{_≡_, _∙_, sym, ap, refl}
-use Prim.Native.Nat.{ℕ, _≤_, _<_, _-_, _*_, _+_}
+-- `admit::behind_table` meets its contract. Assumes nothing.
+use mathlib.Core.Path.{refl}
+use Prim.Native.Nat.{_≤_, _-_}
 use native.Mathlib.Omega.{arith}
 use borrow.Author.Needs.{needs}
-use lib.ListN.{length, getD}
-use Rattle.admit.specs.Sweep.{Behinds}
 use Rattle.admit.proofs.Clear.{row-some, BehindUp, up-start, up-on, up-done}
 use Rattle.admit.proofs.behind_table.Statement.{statement}
 use Rattle.admit.proofs.behind_table.Tie as tie
-use Rattle.admit.proofs.behind_table.Reads as reads
-use Rattle.admit.proofs.behind_table.Lts as lts
-use Rattle.classes.proofs.class_rows.Reads as class-rows-reads
 
 abbrev Inv-loop : tie.InvT-loop
 Inv-loop rows out₀ k₀ out k = (k ≤ 30) × (BehindUp out k)

@@ -1,11 +1,8 @@
+-- `admit::block` meets its contract. Assumes nothing.
 use Rattle.admit.proofs.Sweeps.{freed-as}
 use borrow.Author.Needs.{needs}
 use Rattle.admit.proofs.block.Statement.{statement}
 use Rattle.admit.proofs.block.Tie as tie
-use Rattle.admit.proofs.block.Reads as reads
-use Rattle.admit.proofs.block.Lts as lts
-use Rattle.admit.proofs.free_block.Reads as free-block-reads
-use Rattle.admit.proofs.mixed_block.Reads as mixed-block-reads
 
 mul-if3 : tie.Need-mul-if3
 mul-if3 c = search needs

@@ -1,15 +1,10 @@
-use borrow.Author.Needs.{needs}
-use mathlib.Core.Path.{_≡_, _∙_, sym, ap, refl}
-use mathlib.Core.Bool.{Bool, true, false, false≢true}
-use Prim.Native.Nat.{ℕ, _≤_, _<_, _-_, _*_, _+_, _^_, _%_}
+-- `admit::edge_ok` meets its contract. Assumes nothing.
+use mathlib.Core.Path.{sym}
+use mathlib.Core.Bool.{true, false, false≢true}
 use native.Mathlib.Omega.{arith}
-use lib.Dec.{eqb}
-use lib.ListN.{length, getD}
 use borrow.Author.Tests.{eqb-true, eqb-false}
 use Rattle.admit.proofs.edge_ok.Statement.{statement}
 use Rattle.admit.proofs.edge_ok.Tie as tie
-use Rattle.admit.proofs.edge_ok.Reads as reads
-use Rattle.admit.proofs.edge_ok.Lts as lts
 
 returns : tie.Need-returns
 returns c = (λ e z. absurd (omega arith), λ e. absurd (false≢true (sym e)))

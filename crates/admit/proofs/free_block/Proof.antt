@@ -1,16 +1,11 @@
+-- `admit::free_block` meets its contract. Assumes nothing.
 use Rattle.records.specs.Pool.{pool}
-use mathlib.Core.Path.{_≡_, _∙_, sym, ap, refl}
-use Prim.Native.Nat.{ℕ, _≤_, _<_, _-_, _*_, _+_}
+use Prim.Native.Nat.{_≤_, _-_}
 use native.Mathlib.Omega.{arith}
 use borrow.Author.Needs.{needs}
-use Rattle.admit.specs.Sweep.{Swept}
 use Rattle.admit.proofs.Sweeps.{Freed, freed-start, freed-on, freed-done}
 use Rattle.admit.proofs.free_block.Statement.{statement}
 use Rattle.admit.proofs.free_block.Tie as tie
-use Rattle.admit.proofs.free_block.Reads as reads
-use Rattle.admit.proofs.free_block.Lts as lts
-use Rattle.admit.proofs.any_slot.Reads as any-slot-reads
-use Rattle.admit.proofs.wide.Reads as wide-reads
 
 abbrev Inv-loop : tie.InvT-loop
 Inv-loop bits words slots i acc₀ p₀ acc p = (p ≤ 64) × (Freed (pool bits words slots) i p acc)

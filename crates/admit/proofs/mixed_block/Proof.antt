@@ -1,18 +1,12 @@
+-- `admit::mixed_block` meets its contract. Assumes nothing.
 use Rattle.records.specs.Pool.{pool}
-use mathlib.Core.Path.{_≡_, _∙_, sym, ap, refl}
-use mathlib.Core.Bool.{Bool, true, false}
-use Prim.Native.Nat.{ℕ, _≤_, _<_, _-_, _*_, _+_, _%_}
+use Prim.Native.Nat.{_≤_, _-_}
 use native.Mathlib.Omega.{arith}
 use borrow.Author.Needs.{needs}
 use borrow.Author.Tests.{not-true, not-false}
-use Rattle.admit.specs.Sweep.{Ready, Paged, Swept}
 use Rattle.admit.proofs.Sweeps.{Walked, walked-start, walked-on, walked-off, walked-done, edge-off}
 use Rattle.admit.proofs.mixed_block.Statement.{statement}
 use Rattle.admit.proofs.mixed_block.Tie as tie
-use Rattle.admit.proofs.mixed_block.Reads as reads
-use Rattle.admit.proofs.mixed_block.Lts as lts
-use Rattle.admit.proofs.edge_ok.Reads as edge-ok-reads
-use Rattle.admit.proofs.page.Reads as page-reads
 
 abbrev Inv-loop : tie.InvT-loop
 Inv-loop bits words slots i left due masks behinds bw₀ l₀ d₀ acc₀ p₀ bw l d acc p = (p ≤ 64) × (Walked (pool bits words slots) i left due p l d acc bw)

@@ -1,19 +1,10 @@
-use mathlib.Core.Path.{_≡_, _∙_, sym, ap, refl}
-use mathlib.Core.Bool.{Bool, true, false}
-use Prim.Native.Nat.{ℕ, _≤_, _<_, _-_, _*_, _+_}
+-- `admit::page` meets its contract. Assumes nothing.
 use native.Mathlib.Omega.{arith}
 use borrow.Author.Tests.{not-true, not-false}
-use Rattle.admit.specs.Sweep.{Ready, Paged}
-use Rattle.admit.proofs.Steps.{bit-is, no-free-run, no-free-word, no-inner, no-class, no-low, no-large, is-free, is-inner, is-class, is-large}
+use Rattle.admit.proofs.Steps.{bit-is, no-free-run, no-free-word, no-inner, no-run, is-free, is-inner, is-class, is-large}
 use borrow.Author.Needs.{needs}
 use Rattle.admit.proofs.page.Statement.{statement}
 use Rattle.admit.proofs.page.Tie as tie
-use Rattle.admit.proofs.page.Reads as reads
-use Rattle.admit.proofs.page.Lts as lts
-use Rattle.admit.proofs.after_word.Reads as after-word-reads
-use Rattle.admit.proofs.any_slot.Reads as any-slot-reads
-use Rattle.admit.proofs.stray_slot.Reads as stray-slot-reads
-use Rattle.admit.proofs.wrong.Reads as wrong-reads
 
 wrong-requires : tie.Need-wrong-requires
 wrong-requires c κs = search needs
@@ -37,62 +28,80 @@ sub-t18 : tie.Need-sub-t18
 sub-t18 c = search needs
 
 returns-3 : tie.Need-returns-3
-returns-3 c = bit-is (not-false _ (c .before .before .before .if2 .left)) (is-inner _ _ _ _ _ _ _ (c .before .before .before .before .before .before .pre .4) (c .before .before .before .before .if1 .taken) (c .before .before .if3 .left) (c .before .any-slot .ensures) (c .after-word .ensures))
+returns-3 c =
+    bit-is (not-false _ (c .before .before .before .if2 .left))
+    (is-inner _ _ _ _ _ _ _ (c .before .before .before .before .before .before .pre .4) (c .before .before .before .before .if1 .taken) (c .before .before .if3 .left) (c .before .any-slot .ensures) (c .after-word .ensures))
+
+in-range-requires : tie.Need-in-range-requires
+in-range-requires c κs = search needs
 
 wrong-requires-3 : tie.Need-wrong-requires-3
 wrong-requires-3 c κs = search needs
 
 returns-4 : tie.Need-returns-4
-returns-4 c = bit-is (not-true _ (c .before .before .if4 .taken)) (no-free-word _ _ _ _ _ _ _ _ _ (c .wrong3 .ensures) (c .before .before .before .if1 .left) (c .before .if5 .taken))
+returns-4 c =
+    let r = c .before .before .before .in-range .ensures .0 (c .before .before .if4 .taken) in
+    bit-is (not-true _ (c .before .if5 .taken)) (no-free-word _ _ _ _ _ _ _ _ _ (c .wrong3 .ensures) (c .before .before .before .before .if1 .left) (omega arith))
 
-any-slot-requires-2 : tie.Need-any-slot-requires-2
-any-slot-requires-2 c κs = search needs
-
-returns-5 : tie.Need-returns-5
-returns-5 c = bit-is (not-true _ (c .before .before .if4 .taken)) (is-free _ _ _ _ _ _ (c .before .before .before .if1 .left) (c .before .if5 .left) (c .any-slot2 .ensures))
+sub-b : tie.Need-sub-b
+sub-b c = let r = c .before .before .in-range .ensures .0 (c .before .if4 .taken) in omega arith
 
 cast-b : tie.Need-cast-b
 cast-b c = search needs
 
 stray-slot-requires : tie.Need-stray-slot-requires
-stray-slot-requires c κs = search needs
+stray-slot-requires c κs =
+    let r = c .before .before .in-range .ensures .0 (c .before .if4 .taken) in
+    (omega arith, omega arith, omega arith, c .before .before .before .before .before .pre .2)
 
 mul-n : tie.Need-mul-n
 mul-n c = search needs
 
 element-copy-out-n : tie.Need-element-copy-out-n
-element-copy-out-n c = search needs
+element-copy-out-n c = let r = c .before .before .before .in-range .ensures .0 (c .before .before .if4 .taken) in omega arith
 
 add-t21 : tie.Need-add-t21
-add-t21 c = search needs
+add-t21 c = let r = c .before .before .before .before .in-range .ensures .0 (c .before .before .before .if4 .taken) in record { fits = omega arith }
 
-returns-6 : tie.Need-returns-6
-returns-6 c =
-    bit-is (not-false _ (c .before .before .before .before .if4 .left)) (is-class _ _ _ _ _ _ _ (c .before .before .before .before .before .if1 .left) (c .before .before .before .if6 .taken) (c .before .before .if7 .taken) (c .before .before .before .before .before .before .before .pre .3 .at _ (omega arith)) (c .before .stray-slot .ensures))
+returns-5 : tie.Need-returns-5
+returns-5 c =
+    let r = c .before .before .before .before .in-range .ensures .0 (c .before .before .before .if4 .taken) in
+    bit-is (not-false _ (c .before .before .if5 .left))
+    (is-class _ _ _ _ _ _ _ (c .before .before .before .before .before .if1 .left) (r .0) (r .1) (c .before .before .before .before .before .before .before .pre .3 .at _ (omega arith)) (c .before .stray-slot .ensures))
 
 wrong-requires-4 : tie.Need-wrong-requires-4
 wrong-requires-4 c κs = search needs
 
+returns-6 : tie.Need-returns-6
+returns-6 c = bit-is (not-true _ (c .before .before .if6 .taken)) (no-free-word _ _ _ _ _ _ _ _ _ (c .wrong4 .ensures) (c .before .before .before .before .before .if1 .left) (c .before .if7 .taken))
+
+any-slot-requires-2 : tie.Need-any-slot-requires-2
+any-slot-requires-2 c κs = search needs
+
 returns-7 : tie.Need-returns-7
-returns-7 c = bit-is (not-false _ (c .before .before .before .if4 .left)) (no-class _ _ _ _ _ _ _ _ _ (c .wrong4 .ensures) (c .before .before .before .before .if1 .left) (c .before .if7 .left))
+returns-7 c = bit-is (not-true _ (c .before .before .if6 .taken)) (is-free _ _ _ _ _ _ (c .before .before .before .before .before .if1 .left) (c .before .if7 .left) (c .any-slot2 .ensures))
 
-wrong-requires-5 : tie.Need-wrong-requires-5
-wrong-requires-5 c κs = search needs
-
-returns-8 : tie.Need-returns-8
-returns-8 c = bit-is (not-false _ (c .before .before .before .if4 .left)) (no-low _ _ _ _ _ _ _ _ _ (c .wrong5 .ensures) (c .before .before .before .before .if1 .left) (c .before .if8 .taken))
+in-range-requires-2 : tie.Need-in-range-requires-2
+in-range-requires-2 c κs = search needs
 
 any-slot-requires-3 : tie.Need-any-slot-requires-3
 any-slot-requires-3 c κs = search needs
 
+sub-t27 : tie.Need-sub-t27
+sub-t27 c = let r = c .before .before .in-range2 .ensures .0 (c .before .if8 .taken) in omega arith
+
+returns-8 : tie.Need-returns-8
+returns-8 c =
+    let r = c .before .before .in-range2 .ensures .0 (c .before .if8 .taken) in
+    bit-is (not-false _ (c .before .before .before .if6 .left)) (is-large _ _ _ _ _ _ (c .before .before .before .before .before .before .if1 .left) (r .0) (r .1) (c .any-slot3 .ensures))
+
+wrong-requires-5 : tie.Need-wrong-requires-5
+wrong-requires-5 c κs = search needs
+
 returns-9 : tie.Need-returns-9
-returns-9 c = bit-is (not-false _ (c .before .before .before .before .if4 .left)) (is-large _ _ _ _ _ _ (c .before .before .before .before .before .if1 .left) (c .before .before .if8 .left) (c .before .if9 .taken) (c .any-slot3 .ensures))
-
-wrong-requires-6 : tie.Need-wrong-requires-6
-wrong-requires-6 c κs = search needs
-
-returns-10 : tie.Need-returns-10
-returns-10 c = bit-is (not-false _ (c .before .before .before .before .if4 .left)) (no-large _ _ _ _ _ _ _ _ _ (c .wrong6 .ensures) (c .before .before .before .before .before .if1 .left) (c .before .if9 .left) (c .before .before .before .if6 .left))
+returns-9 c =
+    bit-is (not-false _ (c .before .before .before .if6 .left))
+    (no-run _ _ _ _ _ _ _ _ _ (c .wrong5 .ensures) (c .before .before .before .before .before .before .if1 .left) (c .before .before .before .before .before .in-range .ensures .1 (c .before .before .before .before .if4 .left)) (c .before .before .in-range2 .ensures .1 (c .before .if8 .left)))
 
 pub page-spec : {M : Type 1} → statement M
 page-spec =
@@ -106,21 +115,23 @@ page-spec =
     after-word-requires
     sub-t18
     returns-3
+    in-range-requires
     wrong-requires-3
     returns-4
-    any-slot-requires-2
-    returns-5
+    sub-b
     cast-b
     stray-slot-requires
     mul-n
     element-copy-out-n
     add-t21
-    returns-6
+    returns-5
     wrong-requires-4
+    returns-6
+    any-slot-requires-2
     returns-7
-    wrong-requires-5
-    returns-8
+    in-range-requires-2
     any-slot-requires-3
-    returns-9
-    wrong-requires-6
-    returns-10)
+    sub-t27
+    returns-8
+    wrong-requires-5
+    returns-9)

@@ -1,20 +1,12 @@
+-- `admit::pages_sound` meets its contract. Assumes nothing.
 use Rattle.records.specs.Pool.{pool}
-use mathlib.Core.Path.{_≡_, _∙_, sym, ap, refl}
-use mathlib.Core.Bool.{Bool, true, false}
-use mathlib.Core.List.{[]}
-use Prim.Native.Nat.{ℕ, _≤_, _<_, _-_, _*_, _+_, _%_}
+use Prim.Native.Nat.{_≤_, _-_}
 use native.Mathlib.Omega.{arith}
 use borrow.Author.Needs.{needs}
 use borrow.Author.Tests.{not-true, not-false}
-use Rattle.admit.specs.Sweep.{Ready, Swept}
 use Rattle.admit.proofs.Sweeps.{Blocks, blocks-start, blocks-on, blocks-off, blocks-done}
 use Rattle.admit.proofs.pages_sound.Statement.{statement}
 use Rattle.admit.proofs.pages_sound.Tie as tie
-use Rattle.admit.proofs.pages_sound.Reads as reads
-use Rattle.admit.proofs.pages_sound.Lts as lts
-use Rattle.admit.proofs.behind_table.Reads as behind-table-reads
-use Rattle.admit.proofs.block.Reads as block-reads
-use Rattle.admit.proofs.masks.mask_table.Reads as mask-table-reads
 
 abbrev Inv-loop : tie.InvT-loop
 Inv-loop bits words slots n masks behinds left₀ due₀ i₀ left due i = (i ≤ n) × (Blocks (pool bits words slots) n i left due)

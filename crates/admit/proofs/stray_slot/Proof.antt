@@ -1,18 +1,15 @@
+-- `admit::stray_slot` meets its contract. Assumes nothing.
 use borrow.Author.Needs.{needs}
-use mathlib.Core.Path.{_≡_, _∙_, sym, ap, refl}
-use mathlib.Core.Bool.{Bool, true, false, false≢true}
-use Prim.Native.Nat.{ℕ, _≤_, _<_, _-_, _*_, _+_, _^_, _%_}
+use mathlib.Core.Path.{_≡_, refl}
+use Prim.Native.Nat.{_≤_, _-_, _*_}
 use native.Mathlib.Omega.{arith}
 use lib.Dec.{eqb}
-use lib.ListN.{length, getD}
 use Rattle.classes.specs.Classes.{slots}
 use Rattle.records.specs.Sound.{all}
-use Rattle.admit.specs.Sweep.{wordClear, slotsClear}
+use Rattle.admit.specs.Sweep.{wordClear}
 use Rattle.admit.proofs.Clear.{all-none, stray-turn, slots-done}
 use Rattle.admit.proofs.stray_slot.Statement.{statement}
 use Rattle.admit.proofs.stray_slot.Tie as tie
-use Rattle.admit.proofs.stray_slot.Reads as reads
-use Rattle.admit.proofs.stray_slot.Lts as lts
 
 abbrev Inv-loop : tie.InvT-loop
 Inv-loop ss g masks b i m acc₀ j₀ acc j = (j ≤ 8) × (i ≡ 8 * g) × (m ≡ 8 * b) × (eqb acc 0 ≡ all j (wordClear ss g (slots b)))

@@ -1,19 +1,15 @@
+-- `fresh::each_of` meets its contract. Assumes nothing.
 use Rattle.fresh.proofs.FillLaws.{each-is, each-not}
 use borrow.Author.Needs.{needs}
 use Rattle.fresh.proofs.each_of.Statement.{statement}
 use Rattle.fresh.proofs.each_of.Tie as tie
-use Rattle.fresh.proofs.each_of.Reads as reads
-use Rattle.fresh.proofs.each_of.Lts as lts
 
--- src/lib.rt:14:8
 rem-if1 : tie.Need-rem-if1
 rem-if1 c = search needs
 
--- src/lib.rt:15:9
 returns : tie.Need-returns
 returns c = each-is _ _ _ (c .if1 .taken)
 
--- src/lib.rt:10:1
 returns-2 : tie.Need-returns-2
 returns-2 c = each-not _ _ _ (c .if1 .left)
 

@@ -1,47 +1,34 @@
+-- `fresh::fresh` meets its contract. Assumes nothing.
 use borrow.Author.Tests.{not-true, not-false}
 use Rattle.fresh.proofs.FillLaws.{fresh-made, fresh-not}
 use borrow.Author.Needs.{needs}
 use Rattle.fresh.proofs.fresh.Statement.{statement}
 use Rattle.fresh.proofs.fresh.Tie as tie
-use Rattle.fresh.proofs.fresh.Reads as reads
-use Rattle.fresh.proofs.fresh.Lts as lts
-use Rattle.fresh.proofs.fill32.Reads as fill32-reads
-use Rattle.fresh.proofs.fill64.Reads as fill64-reads
-use Rattle.records.proofs.is_shaped.Reads as is-shaped-reads
 
--- src/lib.rt:54:9
 is-shaped-requires : tie.Need-is-shaped-requires
 is-shaped-requires c κs = search needs
 
--- src/lib.rt:55:9
 returns : tie.Need-returns
 returns c = fresh-not _ _ _ (c .before .is-shaped .ensures) (not-true _ (c .if1 .taken))
 
--- src/lib.rt:57:5
 fill64-requires : tie.Need-fill64-requires
 fill64-requires c κs = search needs
 
--- src/lib.rt:58:5
 fill32-requires : tie.Need-fill32-requires
 fill32-requires c κs = search needs
 
--- src/lib.rt:59:5
 fill64-requires-2 : tie.Need-fill64-requires-2
 fill64-requires-2 c κs = search needs
 
--- src/lib.rt:51:1
 same-length : tie.Need-same-length
 same-length c = search needs
 
--- src/lib.rt:51:1
 same-length-2 : tie.Need-same-length-2
 same-length-2 c = search needs
 
--- src/lib.rt:51:1
 same-length-3 : tie.Need-same-length-3
 same-length-3 c = search needs
 
--- src/lib.rt:51:1
 returns-2 : tie.Need-returns-2
 returns-2 c =
     fresh-made _ _ _ _ _ _ (c .before .before .before .before .before .before .before .before .before .before .before .before .before .is-shaped .ensures) (not-false _ (c .before .before .before .before .before .before .before .before .before .before .before .before .if1 .left))

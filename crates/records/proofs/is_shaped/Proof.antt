@@ -1,44 +1,34 @@
+-- `records::is_shaped` meets its contract. Assumes nothing.
 use native.Mathlib.Omega.{arith}
-use Rattle.records.proofs.AdmitLaws.{Lengths, lengths-shaped, not-shaped}
+use Rattle.records.proofs.AdmitLaws.{lengths-shaped, not-shaped}
 use borrow.Author.Needs.{needs}
 use Rattle.records.proofs.is_shaped.Statement.{statement}
 use Rattle.records.proofs.is_shaped.Tie as tie
-use Rattle.records.proofs.is_shaped.Reads as reads
-use Rattle.records.proofs.is_shaped.Lts as lts
 
--- src/lib.rt:11:9
 returns : tie.Need-returns
 returns c = not-shaped _ _ _ _ (λ l. omega arith)
 
--- src/lib.rt:14:9
 returns-2 : tie.Need-returns-2
 returns-2 c = not-shaped _ _ _ _ (λ l. omega arith)
 
--- src/lib.rt:17:17
 mul-if3 : tie.Need-mul-if3
 mul-if3 c = search needs
 
--- src/lib.rt:18:9
 returns-3 : tie.Need-returns-3
 returns-3 c = not-shaped _ _ _ _ (λ l. omega arith)
 
--- src/lib.rt:20:18
 mul-if4 : tie.Need-mul-if4
 mul-if4 c = search needs
 
--- src/lib.rt:21:9
 returns-4 : tie.Need-returns-4
 returns-4 c = not-shaped _ _ _ _ (λ l. omega arith)
 
--- src/lib.rt:23:18
 mul-if5 : tie.Need-mul-if5
 mul-if5 c = search needs
 
--- src/lib.rt:24:9
 returns-5 : tie.Need-returns-5
 returns-5 c = not-shaped _ _ _ _ (λ l. omega arith)
 
--- src/lib.rt:7:1
 returns-6 : tie.Need-returns-6
 returns-6 c =
     lengths-shaped _ _ _ _

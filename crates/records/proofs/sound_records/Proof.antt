@@ -1,11 +1,9 @@
+-- `records::sound_records` meets its contract. Assumes nothing.
 use Rattle.records.proofs.RunLaws.{sound-runs}
 use Rattle.records.proofs.FreshLaws.{fresh-sound}
 use Rattle.records.proofs.sound_records.Statement.{statement}
 use Rattle.records.proofs.sound_records.Tie as tie
-use Rattle.records.proofs.sound_records.Reads as reads
-use Rattle.records.proofs.sound_records.Lts as lts
 
--- src/lib.rt:27:1
 returns : tie.Need-returns
 returns c = record { runs = sound-runs; fresh = fresh-sound }
 

@@ -1,10 +1,9 @@
+-- `admit::masks::mask_table` meets its contract. Assumes nothing.
 use mathlib.Core.Path.{refl}
 use Rattle.classes.specs.Classes.{rows}
 use Rattle.admit.specs.Masks.{maskTable, masksOf}
 use Rattle.admit.proofs.masks.mask_table.Statement.{statement}
 use Rattle.admit.proofs.masks.mask_table.Tie as tie
-use Rattle.admit.proofs.masks.mask_table.Reads as reads
-use Rattle.admit.proofs.masks.mask_table.Lts as lts
 
 returns : tie.Need-returns
 unfolding maskTable masksOf rows
