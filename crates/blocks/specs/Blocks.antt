@@ -1,0 +1,48 @@
+-- The live blocks of a pool, as one list by rising place: what next, census and totals read, and what the book is compared with.
+-- Assumes nothing.
+use mathlib.Core.Bool.{Bool, true, false}
+use mathlib.Core.List.{List, [], _∷_, _++_}
+use Prim.Native.Nat.{ℕ, zero, suc, _+_, _*_}
+use Rattle.classes.specs.Classes.{size, slots}
+use Rattle.records.specs.Kinds.{Kind, edge, free, damaged, large, class, inner}
+use Rattle.records.specs.Pool.{Pool, kindAt, slotAt}
+
+-- a block: its place and the size that was given
+pub record Block : Type 0 where
+  pub place : ℕ
+  pub size : ℕ
+
+-- slot s of a run of class b that starts at page g
+abbrev pub slotBlock : ℕ → ℕ → ℕ → Block
+slotBlock g b s = record { place = 4096 * g + s * size b; size = size b }
+
+-- a large run that starts at page g and has k pages behind its first
+abbrev pub runBlock : ℕ → ℕ → Block
+runBlock g k = record { place = 4096 * g; size = 4096 * suc k }
+
+-- what f gives at n numbers from i on, one after the other
+unfoldable pub flat : (ℕ → List Block) → ℕ → ℕ → List Block
+flat f i zero = []
+flat f i (suc n) = f i ++ flat f (suc i) n
+
+abbrev pub when : Bool → Block → List Block
+when true b = b ∷ []
+when false b = []
+
+-- the live blocks that begin in the run that starts at page g, by the page's kind and the taken slots
+abbrev pub blocksAt : ℕ → Kind → (ℕ → Bool) → List Block
+blocksAt g edge taken = []
+blocksAt g free taken = []
+blocksAt g damaged taken = []
+blocksAt g (large k) taken = runBlock g k ∷ []
+blocksAt g (class b) taken = flat (λ s. when (taken s) (slotBlock g b s)) 0 (slots b)
+blocksAt g (inner w) taken = []
+
+-- the live blocks of a pool of c chunks
+unfoldable pub live : ℕ → Pool → List Block
+live c p = flat (λ g. blocksAt g (kindAt p g) (slotAt p g)) 0 (512 * c)
+
+-- the second list is the first with the block b more
+pub data Ins (b : Block) : List Block → List Block → Type 0 where
+  here : {l : List Block} → Ins b l (b ∷ l)
+  there : {x : Block} {l l′ : List Block} → Ins b l l′ → Ins b (x ∷ l) (x ∷ l′)

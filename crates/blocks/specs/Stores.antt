@@ -1,0 +1,35 @@
+-- The stores of the calls: the pages of a run and one slot; and what they do to a pool. Assumes nothing.
+use mathlib.Core.Path.{_≡_}
+use mathlib.Core.Bool.{true}
+use mathlib.Core.List.{List}
+use Prim.Native.Nat.{ℕ, _+_, _*_}
+use lib.ListN.{length}
+use lib.Seq.{sets}
+use Rattle.bitrow.specs.Row.{putBit, putBits}
+use Rattle.records.specs.Pool.{Pool, pool}
+use Rattle.records.specs.Calls.{fit}
+use Rattle.records.specs.Sound.{sound}
+use Rattle.blocks.specs.Blocks.{Block, live, Ins}
+
+-- the pages from page g on get these words, and the page bit v each
+unfoldable pub putRun : ℕ → Pool → ℕ → List ℕ → Pool
+putRun v p g ws = pool (putBits v (p .bits) g (length ws)) (sets (p .words) g ws) (p .slots)
+
+-- slot s of the run that starts at page g gets the slot bit v
+unfoldable pub putSlot : ℕ → Pool → ℕ → ℕ → Pool
+putSlot v p g s = pool (p .bits) (p .words) (putBit v (p .slots) (512 * g + s))
+
+-- records of c chunks, sound
+pub record Good (c : ℕ) (p : Pool) : Type 0 where
+  pub shape : fit c p ≡ true
+  pub whole : sound c p ≡ true
+
+-- the pool q is as good as p was, and has the block b more
+pub record Gains (c : ℕ) (p q : Pool) (b : Block) : Type 0 where
+  pub good : Good c q
+  pub more : Ins b (live c p) (live c q)
+
+-- ... or less
+pub record Loses (c : ℕ) (p q : Pool) (b : Block) : Type 0 where
+  pub good : Good c q
+  pub less : Ins b (live c q) (live c p)
