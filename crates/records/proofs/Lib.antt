@@ -4,3 +4,4 @@ pub mod WalkLaws
 pub mod RunLaws
 pub mod FreshLaws
 pub mod AdmitLaws
+pub mod WordLaws

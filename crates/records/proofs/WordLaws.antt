@@ -1,0 +1,103 @@
+-- What the word and the bit of a page of sound records tell. Assumes nothing.
+use mathlib.Core.Path.{_≡_, refl, sym, ap, _∙_}
+use mathlib.Core.Logic.{_≢_, _⊎_, inl, inr, by-cases}
+use mathlib.Core.Bool.{Bool, true, false, false≢true}
+use Prim.Native.Nat.{ℕ, _-_, _*_, _%_, _≤_, _<_}
+use native.Mathlib.Decide.{ℕ-discrete, decLt}
+use native.Mathlib.Omega.{arith}
+use lib.ListN.{getD}
+use borrow.Author.Tests.{eq-eqb, ne-eqb}
+use Rattle.bitrow.specs.Row.{isSet}
+use Rattle.records.specs.Kinds.{edge, free, damaged, large, class, inner, kindOf}
+use Rattle.records.specs.Pool.{Pool, isEdge, kindAt}
+use Rattle.records.specs.Sound.{sound}
+use Rattle.records.proofs.Flags.{cond-eq, cond-ne}
+use Rattle.records.proofs.KindLaws.{kind-zero, kind-class, kind-large, kind-no-class, kind-no-large, kind-no-low}
+use mathlib.Core.List.{[]}
+use Rattle.records.proofs.WalkLaws.{sound-walks, walk-right}
+
+-- ---- a word that is not damaged
+
+-- on page 0 it is the word of page 0
+edge-only : (t : Bool) (w : ℕ) → kindOf true t w ≢ damaged → (w ≡ 0x40000001) × (t ≡ true)
+edge-only false w n = absurd (n refl)
+edge-only true w n = by-cases (ℕ-discrete w 0x40000001) (λ e. (e, refl)) (λ e. absurd (n (cond-ne w 0x40000001 edge damaged e)))
+
+-- on another page, one that is not 0 is that of a taken page
+taken-word : (t : Bool) (w : ℕ) → kindOf false t w ≢ damaged → w ≢ 0 → kindOf false t w ≡ kindOf false true w
+taken-word true w n z = refl
+taken-word false w n z = absurd (n (cond-ne w 0 free damaged z))
+
+module _ (v t : Bool) (w : ℕ) (n : kindOf v t w ≢ damaged) where
+  -- a word that is neither that of page 0 nor 0
+  plain : w ≢ 0x40000001 → w ≢ 0 → kindOf v t w ≡ kindOf false true w
+  plain m z = go v n
+    where
+      go : (u : Bool) → kindOf u t w ≢ damaged → kindOf u t w ≡ kindOf false true w
+      go true k = absurd (m (edge-only t w k .0))
+      go false k = taken-word t w k z
+
+  pub is-class-word : 0x80000000 ≤ w → w < 0xC0000000 → (w < 0x8000001E) × (kindOf v t w ≡ class (w - 0x80000000))
+  is-class-word a b =
+      let e = plain (omega arith) (omega arith) in
+      by-cases (decLt w 0x8000001E) (λ l. (l, e ∙ kind-class w a l)) (λ l. absurd (n (e ∙ kind-no-class w (omega arith) b)))
+
+  pub is-large-word : v ≡ false → 0x40000001 ≤ w → w < 0x80000000 → (w < 0x40000200) × (kindOf v t w ≡ large (w - 0x40000001))
+  is-large-word f a b =
+      let e : kindOf v t w ≡ kindOf false true w = go v f n in
+      by-cases (decLt w 0x40000200) (λ l. (l, e ∙ kind-large w a l)) (λ l. absurd (n (e ∙ kind-no-large w (omega arith) b)))
+    where
+      go : (u : Bool) → u ≡ false → kindOf u t w ≢ damaged → kindOf u t w ≡ kindOf false true w
+      go true x k = absurd (false≢true (sym x))
+      go false x k = taken-word t w k (omega arith)
+
+  pub is-low-word : w < 0x40000001 → (kindOf v t w ≡ free) ⊎ (kindOf v t w ≡ inner 0)
+  is-low-word a = go v t n
+    where
+      go : (u s : Bool) → kindOf u s w ≢ damaged → (kindOf u s w ≡ free) ⊎ (kindOf u s w ≡ inner 0)
+      go true s k = let e = edge-only s w k .0 in absurd (omega arith)
+      go false false k = by-cases (ℕ-discrete w 0) (λ e. inl (cond-eq w 0 free damaged e)) (λ e. absurd (k (cond-ne w 0 free damaged e)))
+      go false true k = by-cases (ℕ-discrete w 0) (λ e. inr (kind-zero w e ∙ ap inner e)) (λ e. absurd (k (kind-no-low w e a)))
+
+  pub is-edge : v ≡ true → kindOf v t w ≡ edge
+  is-edge f = go v t f n
+    where
+      go : (u s : Bool) → u ≡ true → kindOf u s w ≢ damaged → kindOf u s w ≡ edge
+      go true s x k = let (e, f) = edge-only s w k in ap (λ (q : Bool). kindOf true q w) f ∙ cond-eq w 0x40000001 edge damaged e
+      go false s x k = absurd (false≢true x)
+
+  pub is-free : t ≡ false → kindOf v t w ≡ free
+  is-free f = go v t f n
+    where
+      go : (u s : Bool) → s ≡ false → kindOf u s w ≢ damaged → kindOf u s w ≡ free
+      go true s x k = absurd (false≢true (sym x ∙ edge-only s w k .1))
+      go false true x k = absurd (false≢true (sym x))
+      go false false x k = by-cases (ℕ-discrete w 0) (λ e. cond-eq w 0 free damaged e) (λ e. absurd (k (cond-ne w 0 free damaged e)))
+
+-- ---- a page of sound records
+
+module _ (c : ℕ) (p : Pool) (s : sound c p ≡ true) (g : ℕ) (l : g < 512 * c) where
+  right : kindAt p g ≢ damaged
+  right = walk-right (kindAt p) (512 * c) [] 0 (sound-walks c p s .walks) g (omega arith) (omega arith)
+
+  pub page-class : 0x80000000 ≤ getD (p .words) g 0 → getD (p .words) g 0 < 0xC0000000
+      → (getD (p .words) g 0 < 0x8000001E) × (kindAt p g ≡ class (getD (p .words) g 0 - 0x80000000))
+  unfolding kindAt
+  page-class a b = is-class-word (isEdge g) (isSet (p .bits) g) (getD (p .words) g 0) right a b
+
+  pub page-large : g % 512 ≢ 0 → 0x40000001 ≤ getD (p .words) g 0 → getD (p .words) g 0 < 0x80000000
+      → (getD (p .words) g 0 < 0x40000200) × (kindAt p g ≡ large (getD (p .words) g 0 - 0x40000001))
+  unfolding kindAt isEdge
+  page-large n a b = is-large-word (isEdge g) (isSet (p .bits) g) (getD (p .words) g 0) right (ne-eqb (g % 512) 0 n) a b
+
+  pub page-low : getD (p .words) g 0 < 0x40000001 → (kindAt p g ≡ free) ⊎ (kindAt p g ≡ inner 0)
+  unfolding kindAt
+  page-low a = is-low-word (isEdge g) (isSet (p .bits) g) (getD (p .words) g 0) right a
+
+  pub page-edge : g % 512 ≡ 0 → kindAt p g ≡ edge
+  unfolding kindAt isEdge
+  page-edge e = is-edge (isEdge g) (isSet (p .bits) g) (getD (p .words) g 0) right (eq-eqb (g % 512) 0 e)
+
+  pub page-free : isSet (p .bits) g ≡ false → kindAt p g ≡ free
+  unfolding kindAt
+  page-free e = is-free (isEdge g) (isSet (p .bits) g) (getD (p .words) g 0) right e

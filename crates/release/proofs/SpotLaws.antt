@@ -1,0 +1,202 @@
+-- What starts at a place, by the word of the page that it lies in. Assumes nothing.
+use mathlib.Core.Path.{_≡_, refl, sym, ap, ap₂, _∙_, subst}
+use mathlib.Core.Logic.{_≢_, _⊎_, inl, inr, ⊎-elim, by-cases}
+use mathlib.Core.Bool.{Bool, true, false, cond, false≢true}
+use mathlib.Core.Option.{Option, none, some, Option·none-ne-some, Option·some-injective}
+use mathlib.Core.List.{List, [], _∷_}
+use Prim.Native.Nat.{ℕ, zero, suc, _+_, _-_, _*_, _/_, _%_, _≤_, _<_}
+use native.Mathlib.Decide.{ℕ-discrete, decLe}
+use native.Mathlib.Omega.{arith}
+use lib.Dec.{eqb, ltb}
+use lib.ListN.{length, getD}
+use borrow.Author.Tests.{lt-ltb, le-ltb, eq-eqb, ne-eqb}
+use Rattle.bitrow.specs.Row.{isSet}
+use Rattle.classes.specs.declared.Row.{Row}
+use Rattle.classes.specs.Classes.{rowAt, size, slots}
+use Rattle.classes.proofs.ClassLaws.{row-facts}
+use Rattle.records.specs.Kinds.{Kind, edge, free, damaged, large, class, inner, zeros, behind}
+use Rattle.records.specs.Pool.{Pool, kindAt}
+use Rattle.records.specs.Sound.{step, sound}
+use Rattle.records.specs.Calls.{admitOf}
+use Rattle.records.specs.Runs.{spanOf, InRun}
+use Rattle.records.proofs.Flags.{cond-eq, cond-ne, cond-lt, cond-nlt}
+use Rattle.records.proofs.KindLaws.{length-zeros, length-inner, getD-inner}
+use Rattle.records.proofs.WalkLaws.{walk, Home, sound-walks, walk-home}
+use Rattle.records.proofs.RunLaws.{begins-run, Whole, walk-run, class-at-low, sound-runs}
+use Rattle.records.proofs.WordLaws.{page-class, page-large, page-low, page-edge}
+use Rattle.records.proofs.AdmitLaws.{Admitted, admitted}
+use Rattle.release.specs.declared.Spot.{Spot}
+use Rattle.release.specs.declared.Spot.the-variants.{Nowhere, Run, Slot}
+use Rattle.release.specs.Release.{isInner, firstPage, slotSpot, spotIn, spotFrom, spot}
+
+-- ---- the first page of a run
+
+first-step : (p : Pool) (g : ℕ) (v : Bool) → isInner (kindAt p (suc g)) ≡ v → firstPage p (suc g) ≡ cond v (firstPage p g) (suc g)
+unfolding firstPage
+first-step p g v e = ap (λ (t : Bool). cond t (firstPage p g) (suc g)) e
+
+-- a page that is not inside a run
+first-self : (p : Pool) (g : ℕ) → isInner (kindAt p g) ≡ false → firstPage p g ≡ g
+unfolding firstPage
+first-self p zero e = refl
+first-self p (suc g) e = first-step p g false e
+
+-- a page of a run that starts at page f
+first-run : (p : Pool) (f d g : ℕ) → f + d ≡ g → isInner (kindAt p f) ≡ false → ((i : ℕ) → f < i → i ≤ g → isInner (kindAt p i) ≡ true) → firstPage p g ≡ f
+first-run p f zero g r e h = let q : f ≡ g = omega arith in ap (firstPage p) (sym q) ∙ first-self p f e
+first-run p f (suc d) zero r e h = absurd (omega arith)
+first-run p f (suc d) (suc g) r e h =
+    first-step p g true (h (suc g) (omega arith) (omega arith)) ∙ first-run p f d g (omega arith) e (λ i a b. h i a (omega arith))
+
+-- ---- a page of good records
+
+starts : (k : Kind) → 0 < spanOf k → isInner k ≡ false
+starts edge h = refl
+starts free h = refl
+starts damaged h = refl
+starts (large k) h = refl
+starts (class b) h = refl
+starts (inner w) h = absurd (omega arith)
+
+module _ (c : ℕ) (p : Pool) (s : sound c p ≡ true) where
+  steps : walk (kindAt p) [] 0 (512 * c) ≡ true
+  steps = sound-walks c p s .walks
+
+  -- page g lies in the run that starts at page f
+  pub in-run : (f g : ℕ) → f < 512 * c → InRun p f g → firstPage p g ≡ f
+  in-run f g l r =
+      let a = r .low in let b = r .high in
+      let w = walk-run (kindAt p) (512 * c) f steps l (omega arith) in
+      first-run p f (g - f) g (omega arith) (starts (kindAt p f) (omega arith))
+      (λ i x y. ap isInner (w .rest i x (omega arith)))
+
+  -- the run that a page with the word 0 inside one lies in is large
+  large-home : (g : ℕ) (h : Home (kindAt p) 0 g 0) (k : Kind) → kindAt p (h .first) ≡ k → step [] k ≡ some (h .words)
+      → (n : ℕ) × (kindAt p (h .first) ≡ large n) × (g < h .first + suc n)
+  large-home g h edge e x = let n : 0 ≡ length (h .words) = ap length (Option·some-injective _ _ x) in let f = h .fits in absurd (omega arith)
+  large-home g h free e x = let n : 0 ≡ length (h .words) = ap length (Option·some-injective _ _ x) in let f = h .fits in absurd (omega arith)
+  large-home g h damaged e x = absurd (Option·none-ne-some _ x)
+  large-home g h (large n) e x =
+      let f = h .fits in let b = h .below in
+      let m : n ≡ length (h .words) = sym (length-zeros n) ∙ ap length (Option·some-injective _ _ x) in
+      (n, e, omega arith)
+  large-home g h (class b) e x =
+      let f = h .fits in
+      let m : behind b ≡ length (h .words) = sym (length-inner b 1 (behind b)) ∙ ap length (Option·some-injective _ _ x) in
+      let v : 0 ≡ 0xC0000000 + 65536 * (1 + (g - suc (h .first))) + b =
+            h .word ∙ ap (λ (l : List ℕ). getD l (g - suc (h .first)) 0) (sym (Option·some-injective _ _ x))
+            ∙ getD-inner b 1 (behind b) (g - suc (h .first)) (omega arith) in
+      absurd (omega arith)
+  large-home g h (inner w) e x = absurd (Option·none-ne-some _ x)
+
+-- ---- the ways out
+
+pub spot-outside : (c : ℕ) (p : Pool) (q : ℕ) → 512 * c ≤ q / 4096 → Nowhere 5 ≡ spot c p q
+unfolding spot
+spot-outside c p q h = sym (cond-nlt (q / 4096) (512 * c) _ _ h)
+
+module _ (c : ℕ) (p : Pool) (ok : admitOf c p ≡ 0) (q : ℕ) (l : q / 4096 < 512 * c) where
+  whole : sound c p ≡ true
+  whole = admitted c p ok .whole
+
+  -- the run that the place lies in starts at page f and is of the kind k
+  spot-in : (f : ℕ) (k : Kind) → firstPage p (q / 4096) ≡ f → kindAt p f ≡ k → spotIn p f (q - 4096 * f) k ≡ spot c p q
+  unfolding spot
+  spot-in f k e h =
+      sym (cond-lt (q / 4096) (512 * c) (spotFrom p q (firstPage p (q / 4096))) (Nowhere 5) l ∙ ap (spotFrom p q) e
+        ∙ ap (spotIn p f (q - 4096 * f)) h)
+
+  -- the page is the first of what it lies in
+  spot-here : (k : Kind) → kindAt p (q / 4096) ≡ k → isInner k ≡ false → spotIn p (q / 4096) (q - 4096 * (q / 4096)) k ≡ spot c p q
+  spot-here k e h = spot-in (q / 4096) k (first-self p (q / 4096) (ap isInner e ∙ h)) e
+
+  pub spot-edge : q / 4096 % 512 ≡ 0 → Nowhere 5 ≡ spot c p q
+  spot-edge e = spot-here edge (page-edge c p whole (q / 4096) l e) refl
+
+  -- the offset and the class in the word of a page inside a class run
+  pub spot-inner : (w f : ℕ) → w ≡ getD (p .words) (q / 4096) 0 → 0xC0000000 ≤ w → f ≡ q / 4096 - (w - 0xC0000000) / 65536
+      → ((w - 0xC0000000) / 65536 ≤ q / 4096) × (w % 65536 < 30) × (slotSpot (p .slots) f (w % 65536) (q - 4096 * f) ≡ spot c p q)
+  spot-inner w f e a r =
+      let k : ℕ = (w - 0xC0000000) / 65536 in
+      let word : getD (p .words) (q / 4096) 0 ≡ 0xC0000000 + 65536 * ((w - 0xC0000000) / 65536) + w % 65536 = sym e ∙ omega arith in
+      let (n, h, i) = sound-runs c p whole .back (q / 4096) ((w - 0xC0000000) / 65536) (w % 65536) l (omega arith) word in
+      let kind : kindAt p f ≡ class (w % 65536) = ap (kindAt p) r ∙ h in
+      let inside : InRun p f (q / 4096) = subst (λ (x : ℕ). InRun p x (q / 4096)) (sym r) i in
+      (n, class-at-low p f (w % 65536) kind, spot-in f (class (w % 65536)) (in-run c p whole f (q / 4096) (omega arith) inside) kind)
+
+  pub spot-class : 0x80000000 ≤ getD (p .words) (q / 4096) 0 → getD (p .words) (q / 4096) 0 < 0xC0000000
+      → (getD (p .words) (q / 4096) 0 < 0x8000001E)
+        × (slotSpot (p .slots) (q / 4096) (getD (p .words) (q / 4096) 0 - 0x80000000) (q - 4096 * (q / 4096)) ≡ spot c p q)
+  spot-class a b =
+      let (n, h) = page-class c p whole (q / 4096) l a b in
+      (n, spot-here (class (getD (p .words) (q / 4096) 0 - 0x80000000)) h refl)
+
+  -- a free page, or a page inside a large run
+  pub spot-low : getD (p .words) (q / 4096) 0 < 0x40000001 → Nowhere 5 ≡ spot c p q
+  spot-low a =
+      ⊎-elim (λ h. spot-here free h refl)
+      (λ h. ⊎-elim (λ x. absurd (omega (arith, x .0))) (λ x. inside x)
+        (walk-home (kindAt p) (512 * c) [] 0 (q / 4096) 0 (sound-walks c p whole .walks) (omega arith) (omega arith) h))
+      (page-low c p whole (q / 4096) l a)
+    where
+      inside : Home (kindAt p) 0 (q / 4096) 0 → Nowhere 5 ≡ spot c p q
+      inside h =
+          let (n, e, u) = large-home c p whole (q / 4096) h (kindAt p (h .first)) refl (h .begins) in
+          let b = h .below in
+          let span : spanOf (kindAt p (h .first)) ≡ suc n = ap spanOf e in
+          let r : InRun p (h .first) (q / 4096) = record { low = omega arith; high = omega arith } in
+          sym (cond-ne (q - 4096 * h .first) 0 (Run (h .first) (suc n)) (Nowhere 5) (omega arith))
+          ∙ spot-in (h .first) (large n) (in-run c p whole (h .first) (q / 4096) (omega arith) r) e
+
+  -- a large run's first page
+  large-here : q / 4096 % 512 ≢ 0 → 0x40000001 ≤ getD (p .words) (q / 4096) 0 → getD (p .words) (q / 4096) 0 < 0x80000000
+      → cond (eqb (q - 4096 * (q / 4096)) 0) (Run (q / 4096) (suc (getD (p .words) (q / 4096) 0 - 0x40000001))) (Nowhere 5) ≡ spot c p q
+  large-here n a b = let (m, h) = page-large c p whole (q / 4096) l n a b in spot-here (large (getD (p .words) (q / 4096) 0 - 0x40000001)) h refl
+
+  pub spot-large-inside : q / 4096 % 512 ≢ 0 → 0x40000001 ≤ getD (p .words) (q / 4096) 0 → getD (p .words) (q / 4096) 0 < 0x80000000 → q % 4096 ≢ 0
+      → Nowhere 5 ≡ spot c p q
+  spot-large-inside n a b z = sym (cond-ne (q - 4096 * (q / 4096)) 0 _ _ (omega arith)) ∙ large-here n a b
+
+  pub spot-large : q / 4096 % 512 ≢ 0 → 0x40000001 ≤ getD (p .words) (q / 4096) 0 → getD (p .words) (q / 4096) 0 < 0x80000000 → q % 4096 ≡ 0
+      → (m : ℕ) → m ≡ getD (p .words) (q / 4096) 0 - 0x40000000 → Run (q / 4096) m ≡ spot c p q
+  spot-large n a b z m e =
+      let r : m ≡ suc (getD (p .words) (q / 4096) 0 - 0x40000001) = omega arith in
+      ap (Run (q / 4096)) r ∙ sym (cond-eq (q - 4096 * (q / 4096)) 0 _ _ (omega arith)) ∙ large-here n a b
+
+-- ---- a slot
+
+-- the numbers of class b, as they were read from its row
+pub record Cut (b z n : ℕ) : Type 0 where
+  pub size-is : z ≡ size b
+  pub slots-is : n ≡ slots b
+
+pub cut : {b z n : ℕ} {r : Row} → r ≡ rowAt b → z ≡ r .size → n ≡ r .slots → Cut b z n
+cut e f g = record { size-is = f ∙ ap (λ (x : Row). x .size) e; slots-is = g ∙ ap (λ (x : Row). x .slots) e }
+
+pub cut-some : {b z : ℕ} {r : Row} → r ≡ rowAt b → z ≡ r .size → b < 30 → 0 < z
+cut-some {b} e f l = let h = row-facts b l in let g = f ∙ ap (λ (x : Row). x .size) e in omega arith
+
+pub cut-few : {b z n s : ℕ} → Cut b z n → b < 30 → s < n → s < 512
+cut-few {b} k l h = let f = row-facts b l in let e = k .slots-is in omega arith
+
+module _ (ss : List ℕ) (g b off : ℕ) {z n : ℕ} (k : Cut b z n) where
+  pub slot-between : off % z ≢ 0 → Nowhere 5 ≡ slotSpot ss g b off
+  unfolding slotSpot
+  slot-between h = sym (cond-ne (off % size b) 0 _ _ (subst (λ (x : ℕ). off % x ≢ 0) (k .size-is) h))
+
+  slot-number : off % z ≡ 0
+      → slotSpot ss g b off ≡ cond (ltb (off / z) n) (cond (isSet ss (512 * g + off / z)) (Slot g b (off / z)) (Nowhere 6)) (Nowhere 5)
+  unfolding slotSpot
+  slot-number h =
+      cond-eq (off % size b) 0 _ _ (subst (λ (x : ℕ). off % x ≡ 0) (k .size-is) h)
+      ∙ ap₂ (λ (x y : ℕ). cond (ltb (off / x) y) (cond (isSet ss (512 * g + off / x)) (Slot g b (off / x)) (Nowhere 6)) (Nowhere 5))
+        (sym (k .size-is)) (sym (k .slots-is))
+
+  pub slot-behind : off % z ≡ 0 → n ≤ off / z → Nowhere 5 ≡ slotSpot ss g b off
+  slot-behind h l = sym (slot-number h ∙ cond-nlt (off / z) n _ _ l)
+
+  pub slot-taken : off % z ≡ 0 → off / z < n → isSet ss (512 * g + off / z) ≡ true → Slot g b (off / z) ≡ slotSpot ss g b off
+  slot-taken h l e = sym (slot-number h ∙ cond-lt (off / z) n _ _ l ∙ ap (λ (t : Bool). cond t (Slot g b (off / z)) (Nowhere 6)) e)
+
+  pub slot-free : off % z ≡ 0 → off / z < n → isSet ss (512 * g + off / z) ≡ false → Nowhere 6 ≡ slotSpot ss g b off
+  slot-free h l e = sym (slot-number h ∙ cond-lt (off / z) n _ _ l ∙ ap (λ (t : Bool). cond t (Slot g b (off / z)) (Nowhere 6)) e)
