@@ -97,11 +97,12 @@ run-mid (large k) h = tt
 run-mid (class b) h = tt
 run-mid (inner w) h = absurd (omega arith)
 
--- a run ends inside the pages walked, and its pages behind the first are inner pages
+-- a run ends inside the pages walked, and its pages behind the first have the words that it begins with
 pub record Whole (K : ℕ → Kind) (N g : ℕ) : Type 0 where
   pub ends : g + spanOf (K g) ≤ N
-  pub word : ℕ → ℕ
-  pub rest : (i : ℕ) → g < i → i < g + spanOf (K g) → K i ≡ inner (word i)
+  pub due : List ℕ
+  pub begins : step [] (K g) ≡ some due
+  pub rest : (i : ℕ) → g < i → i < g + spanOf (K g) → K i ≡ inner (getD due (i - suc g) 0)
 
 pub walk-run : (K : ℕ → Kind) (N g : ℕ) → walk K [] 0 N ≡ true → g < N → 0 < spanOf (K g) → Whole K N g
 walk-run K N g h l s =
@@ -112,7 +113,8 @@ walk-run K N g h l s =
     let (a, f) = walk-found K (n .due) (suc g) m (n .walks) in
     record {
       ends = omega arith;
-      word = λ i. getD (n .due) (i - suc g) 0;
+      due = n .due;
+      begins = n .steps;
       rest = λ i x y. let r : i ≡ suc g + (i - suc g) = omega arith in ap K r ∙ f (i - suc g) (omega arith);
     }
 
@@ -141,7 +143,7 @@ module _ (c : ℕ) (p : Pool) (s : sound c p ≡ true) where
   no-start : (f g i : ℕ) → f < 512 * c → f < g → InRun p f i → InRun p g i → ⊥
   no-start f g i l h a b =
       let low = b .low in let high = a .high in let w = whole f i l a in
-      span-inner (w .word g) (kindAt p g) (w .rest g h (omega arith)) (some-page g i b)
+      span-inner (getD (w .due) (g - suc f) 0) (kindAt p g) (w .rest g h (omega arith)) (some-page g i b)
 
   runs-apart : (f g i : ℕ) → f < 512 * c → g < 512 * c → InRun p f i → InRun p g i → f ≡ g
   runs-apart f g i l m a b =

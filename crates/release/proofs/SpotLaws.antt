@@ -84,8 +84,8 @@ module _ (c : ℕ) (p : Pool) (s : sound c p ≡ true) where
       let f = h .fits in
       let m : behind b ≡ length (h .words) = sym (length-inner b 1 (behind b)) ∙ ap length (Option·some-injective _ _ x) in
       let v : 0 ≡ 0xC0000000 + 65536 * (1 + (g - suc (h .first))) + b =
-            h .word ∙ ap (λ (l : List ℕ). getD l (g - suc (h .first)) 0) (sym (Option·some-injective _ _ x))
-            ∙ getD-inner b 1 (behind b) (g - suc (h .first)) (omega arith) in
+      h .word ∙ ap (λ (l : List ℕ). getD l (g - suc (h .first)) 0) (sym (Option·some-injective _ _ x))
+      ∙ getD-inner b 1 (behind b) (g - suc (h .first)) (omega arith) in
       absurd (omega arith)
   large-home g h (inner w) e x = absurd (Option·none-ne-some _ x)
 
@@ -104,7 +104,7 @@ module _ (c : ℕ) (p : Pool) (ok : admitOf c p ≡ 0) (q : ℕ) (l : q / 4096 <
   unfolding spot
   spot-in f k e h =
       sym (cond-lt (q / 4096) (512 * c) (spotFrom p q (firstPage p (q / 4096))) (Nowhere 5) l ∙ ap (spotFrom p q) e
-        ∙ ap (spotIn p f (q - 4096 * f)) h)
+      ∙ ap (spotIn p f (q - 4096 * f)) h)
 
   -- the page is the first of what it lies in
   spot-here : (k : Kind) → kindAt p (q / 4096) ≡ k → isInner k ≡ false → spotIn p (q / 4096) (q - 4096 * (q / 4096)) k ≡ spot c p q
@@ -126,7 +126,7 @@ module _ (c : ℕ) (p : Pool) (ok : admitOf c p ≡ 0) (q : ℕ) (l : q / 4096 <
 
   pub spot-class : 0x80000000 ≤ getD (p .words) (q / 4096) 0 → getD (p .words) (q / 4096) 0 < 0xC0000000
       → (getD (p .words) (q / 4096) 0 < 0x8000001E)
-        × (slotSpot (p .slots) (q / 4096) (getD (p .words) (q / 4096) 0 - 0x80000000) (q - 4096 * (q / 4096)) ≡ spot c p q)
+      × (slotSpot (p .slots) (q / 4096) (getD (p .words) (q / 4096) 0 - 0x80000000) (q - 4096 * (q / 4096)) ≡ spot c p q)
   spot-class a b =
       let (n, h) = page-class c p whole (q / 4096) l a b in
       (n, spot-here (class (getD (p .words) (q / 4096) 0 - 0x80000000)) h refl)
@@ -136,7 +136,7 @@ module _ (c : ℕ) (p : Pool) (ok : admitOf c p ≡ 0) (q : ℕ) (l : q / 4096 <
   spot-low a =
       ⊎-elim (λ h. spot-here free h refl)
       (λ h. ⊎-elim (λ x. absurd (omega (arith, x .0))) (λ x. inside x)
-        (walk-home (kindAt p) (512 * c) [] 0 (q / 4096) 0 (sound-walks c p whole .walks) (omega arith) (omega arith) h))
+      (walk-home (kindAt p) (512 * c) [] 0 (q / 4096) 0 (sound-walks c p whole .walks) (omega arith) (omega arith) h))
       (page-low c p whole (q / 4096) l a)
     where
       inside : Home (kindAt p) 0 (q / 4096) 0 → Nowhere 5 ≡ spot c p q
@@ -190,7 +190,7 @@ module _ (ss : List ℕ) (g b off : ℕ) {z n : ℕ} (k : Cut b z n) where
   slot-number h =
       cond-eq (off % size b) 0 _ _ (subst (λ (x : ℕ). off % x ≡ 0) (k .size-is) h)
       ∙ ap₂ (λ (x y : ℕ). cond (ltb (off / x) y) (cond (isSet ss (512 * g + off / x)) (Slot g b (off / x)) (Nowhere 6)) (Nowhere 5))
-        (sym (k .size-is)) (sym (k .slots-is))
+      (sym (k .size-is)) (sym (k .slots-is))
 
   pub slot-behind : off % z ≡ 0 → n ≤ off / z → Nowhere 5 ≡ slotSpot ss g b off
   slot-behind h l = sym (slot-number h ∙ cond-nlt (off / z) n _ _ l)

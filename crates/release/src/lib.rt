@@ -1,10 +1,13 @@
 // Release and block size: what starts at a place, and how it is given back.
 ghost use mathlib.Core.Path.{_≡_};
-ghost use Prim.Native.Nat.{_+_, _*_, _<_, _≤_};
-ghost use lib.ListN.{length};
+ghost use Prim.Native.Nat.{ℕ, _+_, _*_, _<_, _≤_};
+ghost use lib.ListN.{length, getD};
+ghost use lib.Seq.{sets};
+ghost use Rattle.bitrow.specs.Row.{putBits};
+ghost use Rattle.records.specs.Kinds.{zeros};
 ghost use Rattle.records.specs.Pool.{pool};
 ghost use Rattle.records.specs.Calls.{admitOf, leaves};
-ghost use Rattle.release.specs.Release.{slotSpot, spot, giveBack, give, releaseOf, sizeOf};
+ghost use Rattle.release.specs.Release.{slotSpot, spot, give, releaseOf, sizeAt, sizeOf};
 
 // What starts at a place: nothing, with the refusal's number; a large run of so many pages; a taken slot of a run.
 pub enum Spot {
@@ -75,4 +78,92 @@ pub fn spot_at(c: u64, bits: &[u64], words: &[u32], slots: &[u64], q: u64) -> Sp
         return Spot::Nowhere(5);
     }
     Spot::Run(g, (w - 0x40000000) as usize)
+}
+
+// Frees the n pages of a large run that starts at page g. Only its first page has a word to clear.
+fn give_run(bits: &mut [u64], words: &mut [u32], g: usize, n: usize)
+    requires { ⌜ (1 ≤ n) × (g + n ≤ 8192) × (g + n ≤ 64 * length (now bits)) × (g + n ≤ length (now words)) × ((i : ℕ) → g < i → i < g + n → getD (now words) i 0 ≡ 0) ⌝ }
+    ensures { λ _. ⌜ (now (bits .exit) ≡ putBits 0 (now (bits .entry)) g n) × (now (words .exit) ≡ sets (now (words .entry)) g (zeros n)) ⌝ }
+{
+    bitrow::put_bits(bits, g, n, false);
+    words[g] = 0;
+}
+
+// The work of a release, on records that are sound.
+pub fn release_sound(c: u64, bits: &mut [u64], words: &mut [u32], slots: &mut [u64], q: u64) -> u64
+    requires { ⌜ admitOf c (pool (now bits) (now words) (now slots)) ≡ 0 ⌝ }
+    ensures { λ r. ⌜ leaves r (pool (now (bits .exit)) (now (words .exit)) (now (slots .exit))) ≡ give c (pool (now (bits .entry)) (now (words .entry)) (now (slots .entry))) q ⌝ }
+{
+    match spot_at(c, bits, words, slots, q) {
+        Spot::Nowhere(r) => {
+            return r;
+        }
+        Spot::Run(g, n) => {
+            give_run(bits, words, g, n);
+            return 0;
+        }
+        Spot::Slot(g, b, s) => {
+            bitrow::put_bit(slots, 512 * g + s, false);
+            return 0;
+        }
+    }
+}
+
+// Document 01's release: 0, or refusal 1, 2, 5 or 6 and nothing is changed.
+pub fn release(c: u64, bits: &mut [u64], words: &mut [u32], slots: &mut [u64], q: u64) -> u64
+    ensures { λ r. ⌜ leaves r (pool (now (bits .exit)) (now (words .exit)) (now (slots .exit))) ≡ releaseOf c (pool (now (bits .entry)) (now (words .entry)) (now (slots .entry))) q ⌝ }
+{
+    let a = admit::admit(c, bits, words, slots);
+    if a != 0 {
+        return a;
+    }
+    release_sound(c, bits, words, slots, q)
+}
+
+fn wide64(x: usize) -> u64
+    ensures { λ r. ⌜ r ≡ x ⌝ }
+{
+    x as u64
+}
+
+// The size that was given to the block at the place q, on records that are sound.
+pub fn size_sound(c: u64, bits: &[u64], words: &[u32], slots: &[u64], q: u64) -> Sized
+    requires { ⌜ admitOf c (pool (now bits) (now words) (now slots)) ≡ 0 ⌝ }
+    ensures { λ r. ⌜ r ≡ sizeAt (spot c (pool (now (bits .entry)) (now (words .entry)) (now (slots .entry))) q) ⌝ }
+{
+    match spot_at(c, bits, words, slots, q) {
+        Spot::Nowhere(r) => {
+            return Sized {
+                refusal: r,
+                size: 0,
+            };
+        }
+        Spot::Run(g, n) => {
+            return Sized {
+                refusal: 0,
+                size: 4096 * wide64(n),
+            };
+        }
+        Spot::Slot(g, b, s) => {
+            let row = classes::class_row(b);
+            return Sized {
+                refusal: 0,
+                size: wide64(wide(row.size)),
+            };
+        }
+    }
+}
+
+// Document 01's block size: the size given to the live block at the place q, or refusal 1, 2, 5 or 6.
+pub fn block_size(c: u64, bits: &[u64], words: &[u32], slots: &[u64], q: u64) -> Sized
+    ensures { λ r. ⌜ r ≡ sizeOf c (pool (now (bits .entry)) (now (words .entry)) (now (slots .entry))) q ⌝ }
+{
+    let a = admit::admit(c, bits, words, slots);
+    if a != 0 {
+        return Sized {
+            refusal: a,
+            size: 0,
+        };
+    }
+    size_sound(c, bits, words, slots, q)
 }

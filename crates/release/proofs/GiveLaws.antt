@@ -1,0 +1,198 @@
+-- What was found at a place is there, and how it is given back. Assumes nothing.
+use mathlib.Core.Path.{_≡_, refl, sym, ap, ap₂, _∙_, subst}
+use mathlib.Core.Logic.{_≢_, by-cases}
+use mathlib.Core.Bool.{Bool, true, false, cond}
+use mathlib.Core.List.{List, [], _∷_}
+use mathlib.Core.Option.{Option·some-injective}
+use Prim.Native.Nat.{ℕ, zero, suc, _+_, _-_, _*_, _/_, _%_, _≤_, _<_}
+use native.Mathlib.Nat.{le-refl, div-add-mod'}
+use native.Mathlib.Omega.{arith}
+use lib.Dec.{eqb, ltb}
+use lib.ListN.{length, getD, set}
+use lib.Seq.{sets, set-getD, getD-set-other}
+use Rattle.bitrow.specs.Row.{isSet, putBit, putBits}
+use Rattle.classes.specs.Classes.{size, slots}
+use Rattle.records.specs.Kinds.{Kind, edge, free, damaged, large, class, inner, kindOf, zeros}
+use Rattle.records.specs.Pool.{Pool, pool, isEdge, kindAt, slotAt}
+use Rattle.records.specs.Sound.{step, sound}
+use Rattle.records.specs.Runs.{spanOf}
+use Rattle.records.specs.Calls.{admitOf, Left, leaves}
+use Rattle.records.proofs.Flags.{eq-cases, lt-cases, le-cases}
+use Rattle.records.proofs.KindLaws.{length-zeros, getD-zeros}
+use Rattle.records.proofs.WalkLaws.{sound-walks}
+use Rattle.records.proofs.RunLaws.{walk-run}
+use Rattle.records.proofs.AdmitLaws.{refused, served}
+use Rattle.classes.proofs.ClassLaws.{any-row}
+use Rattle.blocks.specs.Stores.{putRun, putSlot}
+use Rattle.release.specs.declared.Spot.{Spot}
+use Rattle.release.specs.declared.Sized.{Sized}
+use Rattle.release.specs.declared.Spot.the-variants.{Nowhere, Run, Slot}
+use Rattle.release.specs.Release.{isInner, firstPage, slotSpot, spotIn, spotFrom, spot, giveBack, released, give, releaseOf, sized, sizeAt, sizeOf}
+
+-- ---- what was found
+
+-- a large run of n pages starts at the place q
+pub record RunAt (c : ℕ) (p : Pool) (q g n : ℕ) : Type 0 where
+  pub inside : g < 512 * c
+  pub some : 1 ≤ n
+  pub kind : kindAt p g ≡ large (n - 1)
+  pub place : q ≡ 4096 * g
+
+-- a taken slot of class b starts at the place q
+pub record SlotAt (c : ℕ) (p : Pool) (q g b s : ℕ) : Type 0 where
+  pub inside : g < 512 * c
+  pub kind : kindAt p g ≡ class b
+  pub slot : s < slots b
+  pub taken : slotAt p g s ≡ true
+  pub place : q ≡ 4096 * g + s * size b
+
+abbrev pub There : ℕ → Pool → ℕ → Spot → Type 0
+There c p q (Nowhere r) = Unit {0}
+There c p q (Run g n) = RunAt c p q g n
+There c p q (Slot g b s) = SlotAt c p q g b s
+
+module _ (c : ℕ) (p : Pool) (q g : ℕ) (l : g < 512 * c) (low : 4096 * g ≤ q) where
+  slot-there : (b : ℕ) → kindAt p g ≡ class b → There c p q (slotSpot (p .slots) g b (q - 4096 * g))
+  unfolding slotSpot slotAt
+  slot-there b e =
+      eq-cases (There c p q) ((q - 4096 * g) % size b) 0
+      (λ z. lt-cases (There c p q) ((q - 4096 * g) / size b) (slots b)
+      (λ h. go (isSet (p .slots) (512 * g + (q - 4096 * g) / size b)) refl h
+      (let r = div-add-mod' (q - 4096 * g) (size b) in omega arith))
+      (λ h. tt))
+      (λ z. tt)
+    where
+      go : (v : Bool) → isSet (p .slots) (512 * g + (q - 4096 * g) / size b) ≡ v → (q - 4096 * g) / size b < slots b
+          → q ≡ 4096 * g + (q - 4096 * g) / size b * size b
+          → There c p q (cond v (Slot g b ((q - 4096 * g) / size b)) (Nowhere 6))
+      go true f h r = record { inside = l; kind = e; slot = h; taken = f; place = r }
+      go false f h r = tt
+
+  spot-there : (k : Kind) → kindAt p g ≡ k → There c p q (spotIn p g (q - 4096 * g) k)
+  spot-there edge e = tt
+  spot-there free e = tt
+  spot-there damaged e = tt
+  spot-there (large k) e =
+      eq-cases (There c p q) (q - 4096 * g) 0
+      (λ z. let r : suc k - 1 ≡ k = omega arith in record { inside = l; some = omega arith; kind = e ∙ ap large (sym r); place = omega arith }) (λ z. tt)
+  spot-there (class b) e = slot-there b e
+  spot-there (inner w) e = tt
+
+first-le : (p : Pool) (g : ℕ) → firstPage p g ≤ g
+unfolding firstPage
+first-le p zero = omega arith
+first-le p (suc g) = go (isInner (kindAt p (suc g))) (first-le p g)
+  where
+    go : (v : Bool) → firstPage p g ≤ g → cond v (firstPage p g) (suc g) ≤ suc g
+    go true h = omega arith
+    go false h = le-refl (suc g)
+
+pub there : (c : ℕ) (p : Pool) (q : ℕ) → There c p q (spot c p q)
+unfolding spot
+there c p q =
+    lt-cases (There c p q) (q / 4096) (512 * c)
+    (λ h. let f = first-le p (q / 4096) in
+    spot-there c p q (firstPage p (q / 4096)) (omega arith) (omega arith) (kindAt p (firstPage p (q / 4096))) refl)
+    (λ h. tt)
+
+-- ---- the pages of a large run
+
+-- the word of a page inside a run is the one that its kind holds
+abbrev Holds : ℕ → Kind → Type 0
+Holds w edge = Unit {0}
+Holds w free = Unit {0}
+Holds w damaged = Unit {0}
+Holds w (large k) = Unit {0}
+Holds w (class b) = Unit {0}
+Holds w (inner x) = w ≡ x
+
+kind-holds : (v t : Bool) (w : ℕ) → Holds w (kindOf v t w)
+kind-holds true false w = tt
+kind-holds true true w = eq-cases (Holds w) w 0x40000001 (λ a. tt) (λ a. tt)
+kind-holds false false w = eq-cases (Holds w) w 0 (λ a. tt) (λ a. tt)
+kind-holds false true w =
+    le-cases (Holds w) 0xC0000000 w (λ a. refl)
+    (λ a. le-cases (Holds w) 0x80000000 w (λ b. lt-cases (Holds w) w 0x8000001E (λ d. tt) (λ d. tt))
+    (λ b. le-cases (Holds w) 0x40000001 w (λ d. lt-cases (Holds w) w 0x40000200 (λ e. tt) (λ e. tt)) (λ d. eq-cases (Holds w) w 0 (λ e. refl) (λ e. tt))))
+
+inner-word : (p : Pool) (g x : ℕ) → kindAt p g ≡ inner x → getD (p .words) g 0 ≡ x
+unfolding kindAt
+inner-word p g x e = subst (Holds (getD (p .words) g 0)) e (kind-holds (isEdge g) (isSet (p .bits) g) (getD (p .words) g 0))
+
+module _ (c : ℕ) (p : Pool) (s : sound c p ≡ true) {q g n : ℕ} (r : RunAt c p q g n) where
+  pub large-ends : g + n ≤ 512 * c
+  large-ends =
+      let a = r .some in
+      let e : spanOf (kindAt p g) ≡ suc (n - 1) = ap spanOf (r .kind) in
+      let w = walk-run (kindAt p) (512 * c) g (sound-walks c p s .walks) (r .inside) (omega arith) in
+      let b = w .ends in omega arith
+
+  pub large-zeros : (i : ℕ) → g < i → i < g + n → getD (p .words) i 0 ≡ 0
+  large-zeros i x y =
+      let e : spanOf (kindAt p g) ≡ suc (n - 1) = ap spanOf (r .kind) in
+      let w = walk-run (kindAt p) (512 * c) g (sound-walks c p s .walks) (r .inside) (omega arith) in
+      let z : zeros (n - 1) ≡ w .due = Option·some-injective _ _ (ap (step []) (sym (r .kind)) ∙ w .begins) in
+      inner-word p i 0 (w .rest i x (omega arith) ∙ ap (λ (l : List ℕ). inner (getD l (i - suc g) 0)) (sym z) ∙ ap inner (getD-zeros (n - 1) (i - suc g)))
+
+-- zeros stored over zeros
+zeros-kept : (n : ℕ) (l : List ℕ) (i : ℕ) → ((j : ℕ) → i ≤ j → j < i + n → getD l j 0 ≡ 0) → sets l i (zeros n) ≡ l
+zeros-kept zero l i h = refl
+zeros-kept (suc n) l i h =
+    let e : set l i 0 ≡ l = ap (set l i) (sym (h i (omega arith) (omega arith))) ∙ set-getD l i 0 in
+    ap (λ (x : List ℕ). sets x (suc i) (zeros n)) e ∙ zeros-kept n l (suc i) (λ j a b. h j (omega arith) (omega arith))
+
+pub first-cleared : (n : ℕ) (l : List ℕ) (g : ℕ) → 1 ≤ n → ((i : ℕ) → g < i → i < g + n → getD l i 0 ≡ 0) → set l g 0 ≡ sets l g (zeros n)
+first-cleared zero l g a h = absurd (omega arith)
+first-cleared (suc n) l g a h =
+    sym (zeros-kept n (set l g 0) (suc g) (λ j x y. getD-set-other l g j 0 0 (omega arith) ∙ h j (omega arith) (omega arith)))
+
+-- ---- the work of a release
+
+module _ (c : ℕ) (p : Pool) (q : ℕ) where
+  -- a refusal
+  pub gave-nothing : (r : ℕ) (x : Spot) → x ≡ Nowhere r → x ≡ spot c p q → leaves r p ≡ give c p q
+  unfolding give
+  gave-nothing r x e f = ap (λ (y : Spot). leaves (released y) (giveBack p y)) (sym e ∙ f)
+
+  pub gave-run : (g n : ℕ) (x : Spot) → x ≡ Run g n → x ≡ spot c p q → (bs ws : List ℕ) → bs ≡ putBits 0 (p .bits) g n → ws ≡ sets (p .words) g (zeros n)
+      → leaves 0 (pool bs ws (p .slots)) ≡ give c p q
+  unfolding give putRun
+  gave-run g n x e f bs ws a b =
+      let z : bs ≡ putBits 0 (p .bits) g (length (zeros n)) = a ∙ ap (putBits 0 (p .bits) g) (sym (length-zeros n)) in
+      ap₂ (λ (u v : List ℕ). leaves 0 (pool u v (p .slots))) z b ∙ ap (λ (y : Spot). leaves (released y) (giveBack p y)) (sym e ∙ f)
+
+  pub gave-slot : (g b s : ℕ) (x : Spot) → x ≡ Slot g b s → x ≡ spot c p q → (ss : List ℕ) → ss ≡ putBit 0 (p .slots) (512 * g + s)
+      → leaves 0 (pool (p .bits) (p .words) ss) ≡ give c p q
+  unfolding give putSlot
+  gave-slot g b s x e f ss a =
+      ap (λ (u : List ℕ). leaves 0 (pool (p .bits) (p .words) u)) a ∙ ap (λ (y : Spot). leaves (released y) (giveBack p y)) (sym e ∙ f)
+
+-- what the code found
+pub found : (c : ℕ) (p : Pool) (q : ℕ) {x y : Spot} → x ≡ spot c p q → x ≡ y → There c p q y
+found c p q e f = subst (There c p q) (sym e ∙ f) (there c p q)
+
+-- a slot is one of at most 512
+pub few-slots : {c : ℕ} {p : Pool} {q g b s : ℕ} → SlotAt c p q g b s → s < 512
+few-slots {b = b} r = let a = any-row b .slots-most in let h = r .slot in omega arith
+
+pub size-as : {x y w : Spot} {z : Sized} → x ≡ y → x ≡ w → z ≡ sizeAt y → z ≡ sizeAt w
+size-as e f g = g ∙ ap sizeAt (sym e ∙ f)
+
+-- ---- behind the check
+
+module _ (c : ℕ) (p : Pool) (q n : ℕ) (e : n ≡ admitOf c p) where
+  pub release-refused : n ≢ 0 → leaves n p ≡ releaseOf c p q
+  unfolding releaseOf
+  release-refused z = refused (admitOf c p) n (λ r. leaves r p) (give c p q) e z
+
+  pub release-served : n ≡ 0 → {x : Left ℕ} → x ≡ give c p q → x ≡ releaseOf c p q
+  unfolding releaseOf
+  release-served z f = f ∙ served (admitOf c p) n (λ r. leaves r p) (give c p q) e z
+
+  pub size-refused : n ≢ 0 → sized n 0 ≡ sizeOf c p q
+  unfolding sizeOf
+  size-refused z = refused (admitOf c p) n (λ r. sized r 0) (sizeAt (spot c p q)) e z
+
+  pub size-served : n ≡ 0 → {x : Sized} → x ≡ sizeAt (spot c p q) → x ≡ sizeOf c p q
+  unfolding sizeOf
+  size-served z f = f ∙ served (admitOf c p) n (λ r. sized r 0) (sizeAt (spot c p q)) e z
