@@ -2,7 +2,7 @@
 -- Assumes nothing.
 use mathlib.Core.Bool.{Bool, true, false}
 use mathlib.Core.List.{List, [], _∷_, _++_}
-use Prim.Native.Nat.{ℕ, zero, suc, _+_, _*_}
+use Prim.Native.Nat.{ℕ, zero, suc, _+_, _*_, _≤_, _<_}
 use Rattle.classes.specs.Classes.{size, slots}
 use Rattle.records.specs.Kinds.{Kind, edge, free, damaged, large, class, inner}
 use Rattle.records.specs.Pool.{Pool, kindAt, slotAt}
@@ -46,3 +46,8 @@ live c p = flat (λ g. blocksAt g (kindAt p g) (slotAt p g)) 0 (512 * c)
 pub data Ins (b : Block) : List Block → List Block → Type 0 where
   here : {l : List Block} → Ins b l (b ∷ l)
   there : {x : Block} {l l′ : List Block} → Ins b l l′ → Ins b (x ∷ l) (x ∷ l′)
+
+-- the blocks rise from lo to hi, none is empty, and each ends at or before the next one's place
+pub data Rising : ℕ → List Block → ℕ → Type 0 where
+  stop : {lo hi : ℕ} → lo ≤ hi → Rising lo [] hi
+  next : {b : Block} {l : List Block} {lo hi : ℕ} → lo ≤ b .place → 0 < b .size → Rising (b .place + b .size) l hi → Rising lo (b ∷ l) hi

@@ -1,2 +1,4 @@
 pub mod Blocks
 pub mod Stores
+pub mod Keeps
+pub mod Apart

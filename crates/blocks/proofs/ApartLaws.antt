@@ -1,0 +1,132 @@
+-- The live blocks of a good pool lie apart, inside the pool and off page 0 of each chunk. Assumes nothing.
+use mathlib.Core.Path.{_≡_, sym, ap, subst}
+use mathlib.Core.Logic.{_≢_, ⊎-elim}
+use mathlib.Core.Bool.{Bool, true, false, false≢true}
+use mathlib.Core.Option.{some, Option·none-ne-some}
+use mathlib.Core.List.{List, [], _∷_, _++_, List·Memᴰ, List·Memᴰ·not-nil, List·Memᴰ·append-cases, List·Memᴰ·eq-of-singleton}
+use Prim.Native.Nat.{ℕ, zero, suc, _+_, _*_, _/_, _%_, _≤_, _<_}
+use native.Mathlib.Nat.{le-refl, le-trans, mul-le-mul-right}
+use native.Mathlib.Omega.{arith}
+use lib.ListN.{length}
+use Rattle.classes.specs.Classes.{size, slots}
+use Rattle.classes.proofs.ClassLaws.{any-row}
+use Rattle.records.specs.Kinds.{Kind, edge, free, damaged, large, class, inner, behind}
+use Rattle.records.specs.Pool.{Pool, kindAt, slotAt}
+use Rattle.records.specs.Sound.{step}
+use Rattle.records.specs.Runs.{spanOf}
+use Rattle.records.proofs.WalkLaws.{walk, walk-next, sound-walks, step-inner}
+use Rattle.records.proofs.RunLaws.{begins-run, sound-runs}
+use Rattle.blocks.specs.Blocks.{Block, slotBlock, flat, when, blocksAt, live, Rising, stop, next}
+use Rattle.blocks.specs.Stores.{Good}
+
+-- ---- rising lists
+
+-- the constructors as functions: their implicit arguments are known before the others are read, so that `omega` can prove these
+rising-stop : {lo hi : ℕ} → lo ≤ hi → Rising lo [] hi
+rising-stop h = stop h
+
+rising-next : {b : Block} {l : List Block} {lo hi : ℕ} → lo ≤ b .place → 0 < b .size → Rising (b .place + b .size) l hi → Rising lo (b ∷ l) hi
+rising-next h z r = next h z r
+
+-- a list that rises does so between wider bounds
+rising-widen : {l : List Block} {lo lo′ hi hi′ : ℕ} → lo′ ≤ lo → hi ≤ hi′ → Rising lo l hi → Rising lo′ l hi′
+rising-widen a b (stop k) = stop (le-trans a (le-trans k b))
+rising-widen a b (next k z r) = next (le-trans a k) z (rising-widen (le-refl _) b r)
+
+rising-append : {l r : List Block} {lo mid hi : ℕ} → Rising lo l mid → Rising mid r hi → Rising lo (l ++ r) hi
+rising-append (stop h) k = rising-widen h (le-refl _) k
+rising-append (next h z t) k = next h z (rising-append t k)
+
+-- ---- the blocks of a page
+
+-- the slots of a run fit into its pages
+slots-fit : (b : ℕ) → slots b * size b ≤ 4096 * suc (behind b)
+unfolding behind
+slots-fit b = any-row b .fit
+
+one-slot : (v : Bool) (g b s : ℕ) → s < slots b → Rising (4096 * g + s * size b) (when v (slotBlock g b s)) (4096 * g + suc s * size b)
+one-slot true g b s l = rising-next (le-refl _) (any-row b .size-some s l) (rising-stop (omega arith))
+one-slot false g b s l = rising-stop (omega arith)
+
+slots-rising : (t : ℕ → Bool) (g b s n : ℕ) → s + n ≤ slots b
+    → Rising (4096 * g + s * size b) (flat (λ i. when (t i) (slotBlock g b i)) s n) (4096 * g + (s + n) * size b)
+unfolding flat
+slots-rising t g b s zero l = rising-stop (omega arith)
+slots-rising t g b s (suc n) l =
+    rising-widen (le-refl _) (omega arith) (rising-append (one-slot (t s) g b s (omega arith)) (slots-rising t g b (suc s) n (omega arith)))
+
+-- the words that are due are those of pages of a run that began before: no block begins there
+page-rising : (t : ℕ → Bool) (g : ℕ) (st : List ℕ) (k : Kind) (due : List ℕ) → step st k ≡ some due
+    → Rising (4096 * (g + length st)) (blocksAt g k t) (4096 * (suc g + length due))
+page-rising t g [] edge due e = rising-stop (omega arith)
+page-rising t g [] free due e = rising-stop (omega arith)
+page-rising t g [] damaged due e = absurd (Option·none-ne-some due e)
+page-rising t g [] (large k) due e =
+    let l = begins-run (large k) due e (omega arith) in rising-next (omega arith) (omega arith) (rising-stop (omega arith))
+page-rising t g [] (class b) due e =
+    let l = begins-run (class b) due e (omega arith) in
+    let f = slots-fit b in
+    rising-widen (omega arith) (omega arith) (slots-rising t g b 0 (slots b) (omega arith))
+page-rising t g [] (inner w) due e = absurd (Option·none-ne-some due e)
+page-rising t g (w ∷ ws) k due e =
+    let (p, q) = step-inner w ws k due e in
+    let l : length due ≡ length ws = ap length q in
+    subst (λ (j : Kind). Rising (4096 * (g + suc (length ws))) (blocksAt g j t) (4096 * (suc g + length due))) (sym p)
+    (rising-stop (omega arith))
+
+walk-rising : (K : ℕ → Kind) (t : ℕ → ℕ → Bool) (n : ℕ) (st : List ℕ) (g : ℕ) → walk K st g n ≡ true
+    → Rising (4096 * (g + length st)) (flat (λ i. blocksAt i (K i) (t i)) g n) (4096 * (g + n))
+unfolding walk flat
+walk-rising K t zero [] g h = stop (le-refl _)
+walk-rising K t zero (w ∷ ws) g h = absurd (false≢true h)
+walk-rising K t (suc n) st g h =
+    let s = walk-next K st g n h in
+    rising-widen (le-refl _) (omega arith)
+    (rising-append (page-rising (t g) g st (K g) (s .due) (s .steps)) (walk-rising K t n (s .due) (suc g) (s .walks)))
+
+pub live-rising : (c : ℕ) (p : Pool) → Good c p → Rising 0 (live c p) (2097152 * c)
+unfolding live
+live-rising c p h =
+    rising-widen (omega arith) (omega arith) (walk-rising (kindAt p) (slotAt p) (512 * c) [] 0 (sound-walks c p (h .whole) .walks))
+
+-- ---- off page 0
+
+flat-from : {b : Block} (f : ℕ → List Block) (i n : ℕ) → List·Memᴰ b (flat f i n)
+    → (j : ℕ) × (i ≤ j) × (j < i + n) × List·Memᴰ b (f j)
+unfolding flat
+flat-from f i zero m = absurd (List·Memᴰ·not-nil m)
+flat-from f i (suc n) m =
+    ⊎-elim (λ x. (i, omega arith, omega arith, x))
+    (λ x. let (j, a, l, y) = flat-from f (suc i) n x in (j, omega arith, omega arith, y)) (List·Memᴰ·append-cases (f i) m)
+
+when-from : {b : Block} (v : Bool) (x : Block) → List·Memᴰ b (when v x) → b ≡ x
+when-from true x m = List·Memᴰ·eq-of-singleton m
+when-from false x m = absurd (List·Memᴰ·not-nil m)
+
+-- the block b lies in the n pages from page g on
+record Within (b : Block) (g n : ℕ) : Type 0 where
+  low : 4096 * g ≤ b .place
+  high : b .place + b .size ≤ 4096 * (g + n)
+
+slot-within : (g b s : ℕ) → s < slots b → Within (slotBlock g b s) g (suc (behind b))
+slot-within g b s l = let f = slots-fit b in let m = mul-le-mul-right (size b) l in record { low = omega arith; high = omega arith }
+
+-- the blocks that begin in a run lie in its pages
+run-within : {b : Block} (g : ℕ) (k : Kind) (t : ℕ → Bool) → List·Memᴰ b (blocksAt g k t) → Within b g (spanOf k)
+run-within g edge t m = absurd (List·Memᴰ·not-nil m)
+run-within g free t m = absurd (List·Memᴰ·not-nil m)
+run-within g damaged t m = absurd (List·Memᴰ·not-nil m)
+run-within g (large k) t m =
+    subst (λ (x : Block). Within x g (suc k)) (sym (List·Memᴰ·eq-of-singleton m)) (record { low = omega arith; high = omega arith })
+run-within g (class a) t m =
+    let (s, x, l, y) = flat-from (λ s. when (t s) (slotBlock g a s)) 0 (slots a) m in
+    subst (λ (x : Block). Within x g (suc (behind a))) (sym (when-from (t s) (slotBlock g a s) y)) (slot-within g a s (omega arith))
+run-within g (inner w) t m = absurd (List·Memᴰ·not-nil m)
+
+pub live-off : (c : ℕ) (p : Pool) → Good c p → (b : Block) → List·Memᴰ b (live c p)
+    → (q : ℕ) → b .place ≤ q → q < b .place + b .size → q / 4096 % 512 ≢ 0
+unfolding live
+live-off c p h b m q x y =
+    let (g, a, l, n) = flat-from (λ g. blocksAt g (kindAt p g) (slotAt p g)) 0 (512 * c) m in
+    let w = run-within g (kindAt p g) (slotAt p g) n in
+    sound-runs c p (h .whole) .off g (q / 4096) (omega arith) (record { low = omega arith; high = omega arith })

@@ -1,0 +1,58 @@
+-- Lists of blocks that are gathered number by number: equal ones, empty ones, and two that differ by one block. Assumes nothing.
+use mathlib.Core.Path.{_≡_, refl, ap, ap₂}
+use mathlib.Core.Logic.{_≢_}
+use mathlib.Core.Bool.{Bool}
+use mathlib.Core.List.{List, [], _∷_, _++_}
+use Prim.Native.Nat.{ℕ, zero, suc, _+_, _≤_, _<_}
+use native.Mathlib.Decide.{ℕ-discrete}
+use native.Mathlib.Omega.{arith}
+use Rattle.classes.specs.Classes.{slots}
+use Rattle.classes.proofs.ClassLaws.{any-row}
+use Rattle.records.specs.Kinds.{Kind, edge, free, damaged, large, class, inner}
+use Rattle.blocks.specs.Blocks.{Block, slotBlock, flat, when, blocksAt, Ins, here, there}
+
+ins-front : (b : Block) (a : List Block) {l l′ : List Block} → Ins b l l′ → Ins b (a ++ l) (a ++ l′)
+ins-front b [] h = h
+ins-front b (x ∷ a) h = there (ins-front b a h)
+
+ins-back : (b : Block) {l l′ : List Block} (r : List Block) → Ins b l l′ → Ins b (l ++ r) (l′ ++ r)
+ins-back b r here = here
+ins-back b r (there h) = there (ins-back b r h)
+
+pub flat-same : (f f′ : ℕ → List Block) (g n : ℕ) → ((i : ℕ) → g ≤ i → i < g + n → f i ≡ f′ i) → flat f g n ≡ flat f′ g n
+unfolding flat
+flat-same f f′ g zero h = refl
+flat-same f f′ g (suc n) h =
+    ap₂ _++_ (h g (omega arith) (omega arith)) (flat-same f f′ (suc g) n (λ i a c. h i (omega arith) (omega arith)))
+
+pub flat-nil : (f : ℕ → List Block) (g n : ℕ) → ((i : ℕ) → g ≤ i → i < g + n → f i ≡ []) → flat f g n ≡ []
+unfolding flat
+flat-nil f g zero h = refl
+flat-nil f g (suc n) h = rw (h g (omega arith) (omega arith)) (flat-nil f (suc g) n (λ i a c. h i (omega arith) (omega arith)))
+
+-- one block more at one number is one block more in all
+pub flat-ins : (f f′ : ℕ → List Block) (b : Block) (k g n : ℕ) → g ≤ k → k < g + n → Ins b (f k) (f′ k)
+    → ((i : ℕ) → i ≢ k → g ≤ i → i < g + n → f i ≡ f′ i) → Ins b (flat f g n) (flat f′ g n)
+unfolding flat
+flat-ins f f′ b k g zero h l i e = absurd (omega arith)
+flat-ins f f′ b k g (suc n) h l i e = go (ℕ-discrete g k) (flat-ins f f′ b k (suc g) n)
+  where
+    go : Dec (g ≡ k) → (suc g ≤ k → k < suc g + n → Ins b (f k) (f′ k) → ((j : ℕ) → j ≢ k → suc g ≤ j → j < suc g + n → f j ≡ f′ j)
+        → Ins b (flat f (suc g) n) (flat f′ (suc g) n)) → Ins b (f g ++ flat f (suc g) n) (f′ g ++ flat f′ (suc g) n)
+    go (yes p) ih =
+        rw (flat-same f f′ (suc g) n (λ j a c. e j (omega arith) (omega arith) (omega arith)), p) (ins-back b (flat f′ (suc k) n) i)
+    go (no p) ih =
+        rw (e g p (omega arith) (omega arith))
+        (ins-front b (f′ g) (ih (omega arith) (omega arith) i (λ j a c d. e j a (omega arith) (omega arith))))
+
+-- a page's blocks are read from its 512 slot bits alone
+pub blocks-same : (g : ℕ) (k : Kind) (t t′ : ℕ → Bool) → ((s : ℕ) → s < 512 → t s ≡ t′ s) → blocksAt g k t ≡ blocksAt g k t′
+blocks-same g edge t t′ h = refl
+blocks-same g free t t′ h = refl
+blocks-same g damaged t t′ h = refl
+blocks-same g (large k) t t′ h = refl
+blocks-same g (class b) t t′ h =
+    let few = any-row b .slots-most in
+    flat-same (λ s. when (t s) (slotBlock g b s)) (λ s. when (t′ s) (slotBlock g b s)) 0 (slots b)
+    (λ s a l. ap (λ (v : Bool). when v (slotBlock g b s)) (h s (omega arith)))
+blocks-same g (inner w) t t′ h = refl

@@ -1,0 +1,211 @@
+-- Each store keeps a pool good, and puts one block into its live blocks or takes one out. Assumes nothing.
+use mathlib.Core.Path.{_≡_, refl, sym, ap, _∙_, subst}
+use mathlib.Core.Logic.{inl, inr, ⊎-elim, by-cases}
+use mathlib.Core.Bool.{Bool, true, false, cond}
+use mathlib.Core.Option.{some, Option·none-ne-some, Option·some-injective}
+use mathlib.Core.List.{List, [], _∷_}
+use Prim.Native.Nat.{ℕ, suc, _+_, _*_, _-_, _%_, _≤_, _<_}
+use native.Mathlib.Decide.{ℕ-discrete, decLt}
+use native.Mathlib.Omega.{arith}
+use lib.Dec.{ltb}
+use lib.ListN.{length, getD}
+use borrow.Author.Tests.{ltb-true}
+use Rattle.classes.specs.Classes.{slots}
+use Rattle.classes.proofs.ClassLaws.{any-row, row-facts}
+use Rattle.records.specs.Kinds.{Kind, free, large, class, inner, kindOf, zeros, behind, innerWords, wordsOf, slotsOf}
+use Rattle.records.specs.Pool.{Pool, kindAt, slotAt}
+use Rattle.records.specs.Sound.{named, clean, step}
+use Rattle.records.specs.Calls.{freshPool}
+use Rattle.records.specs.Runs.{spanOf}
+use Rattle.records.proofs.Flags.{all-at}
+use Rattle.records.proofs.KindLaws.{length-zeros, getD-zeros, length-inner, getD-inner, kind-free, kind-inner, kind-zero, kind-class, kind-large}
+use Rattle.records.proofs.WalkLaws.{walk, walk-next, Sound, sound-walks, walk-found, Begins, walk-at}
+use Rattle.records.proofs.RunLaws.{Mid, mid-off, walk-run}
+use Rattle.records.proofs.FreshLaws.{fresh-edge, fresh-free}
+use Rattle.records.proofs.AdmitLaws.{Shape, shaped-lengths}
+use Rattle.blocks.specs.Blocks.{Block, slotBlock, runBlock, when, blocksAt, live, Ins, here}
+use Rattle.blocks.specs.Stores.{putRun, putSlot, Good, Gains, Loses}
+use Rattle.blocks.proofs.FlatLaws.{flat-nil}
+use Rattle.blocks.proofs.StoreLaws.{free-off, run-fit, run-slots, run-out, run-in, slot-fit, slot-kinds, slot-same, slot-other}
+use Rattle.blocks.proofs.FlipLaws.{alike-good, gains, loses, RunFlip, run-alike, run-ins, run-same, SlotFlip, slot-alike, slot-ins}
+
+-- no bit names a slot of a page that owns none
+bare : (p : Pool) (g : ℕ) → clean p g ≡ true → slotsOf (kindAt p g) ≡ 0 → (s : ℕ) → s < 512 → slotAt p g s ≡ false
+unfolding clean named
+bare p g e z s l =
+    go (slotAt p g s) (subst (λ (k : ℕ). cond (slotAt p g s) (ltb s k) true ≡ true) z (all-at 512 (named p g) e s l))
+  where
+    go : (t : Bool) → cond t (ltb s 0) true ≡ true → t ≡ false
+    go true x = absurd (omega (arith, ltb-true s 0 x))
+    go false x = refl
+
+-- a page that begins a run is none inside a run
+large-begins : (k : ℕ) → Begins (large k)
+large-begins k w ws t x = Option·none-ne-some t x
+
+class-begins : (b : ℕ) → Begins (class b)
+class-begins b w ws t x = Option·none-ne-some t x
+
+module _ (c : ℕ) (p : Pool) (h : Good c p) where
+  shape : Shape c p
+  shape = shaped-lengths c (length (p .bits)) (length (p .words)) (length (p .slots)) (h .shape)
+
+  records : Sound p [] 0 (512 * c)
+  records = sound-walks c p (h .whole)
+
+  idle-at : (g : ℕ) → g < 512 * c → slotsOf (kindAt p g) ≡ 0 → (s : ℕ) → s < 512 → slotAt p g s ≡ false
+  idle-at g l = bare p g (records .tidy g (omega arith) (omega arith))
+
+  -- a run ends inside the pool
+  pub run-whole : (g : ℕ) → g < 512 * c → g + spanOf (kindAt p g) ≤ 512 * c
+  run-whole g l =
+      by-cases (decLt 0 (spanOf (kindAt p g))) (λ s. walk-run (kindAt p) (512 * c) g (records .walks) l s .ends) (λ s. omega arith)
+
+  -- ---- runs
+
+  -- free pages get a run
+  take-run : (g n w : ℕ) (head : Kind) (ws : List ℕ) → step [] head ≡ some ws → Begins head → length ws ≡ n → kindOf false true w ≡ head
+      → ((k : ℕ) → k < n → kindOf false true (getD ws k 0) ≡ inner (getD ws k 0)) → g + suc n ≤ 512 * c
+      → ((i : ℕ) → g ≤ i → i < g + suc n → kindAt p i ≡ free) → RunFlip c p (putRun 1 p g (w ∷ ws)) g n head ws
+  take-run g n w head ws o b len e f fits were =
+      record {
+        shape = run-fit c 1 p g (w ∷ ws);
+        opens = o;
+        begins = b;
+        long = len;
+        fits = fits;
+        were = were;
+        first = stored 0 g (omega arith) (omega arith) ∙ e;
+        rest = λ k l. stored (suc k) (suc g + k) (omega arith) (omega arith) ∙ f k l;
+        others = λ i x. sym (run-out c 1 p g (w ∷ ws) (omega arith) shape (omega arith) i (⊎-elim inl (λ a. inr (omega arith)) x));
+        same = λ i s. sym (run-slots c 1 p g (w ∷ ws) i s);
+        idle = idle-at g (omega arith) (ap slotsOf (were g (omega arith) (omega arith)));
+      }
+    where
+      stored : (k i : ℕ) → g + k ≡ i → k < suc n → kindAt (putRun 1 p g (w ∷ ws)) i ≡ kindOf false true (getD (w ∷ ws) k 0)
+      stored k i x l =
+          run-in c 1 p g (w ∷ ws) (omega arith) shape (omega arith) k i x (omega arith) (free-off p i (were i (omega arith) (omega arith)))
+
+  -- a run's pages get free
+  give-run : (g n : ℕ) (head : Kind) (ws : List ℕ) → step [] head ≡ some ws → Begins head → length ws ≡ n → Mid head → g < 512 * c
+      → kindAt p g ≡ head → ((s : ℕ) → s < 512 → slotAt p g s ≡ false) → RunFlip c (putRun 0 p g (zeros (suc n))) p g n head ws
+  give-run g n head ws o b len mid l e idle =
+      let m : ℕ = 512 * c - suc g in
+      let w = walk-at (kindAt p) g [] 0 (512 * c) g m (omega arith) (omega arith) (subst Begins (sym e) b) (records .walks) in
+      let s = walk-next (kindAt p) [] g m w in
+      let z : s .due ≡ ws = Option·some-injective (s .due) ws (sym (s .steps) ∙ ap (step []) e ∙ o) in
+      let (a, f) = walk-found (kindAt p) ws (suc g) m (subst (λ (u : List ℕ). walk (kindAt p) u (suc g) m ≡ true) z (s .walks)) in
+      made (omega arith) (λ i x. f i (omega arith))
+    where
+      made : g + suc n ≤ 512 * c → ((i : ℕ) → i < n → kindAt p (suc g + i) ≡ inner (getD ws i 0))
+          → RunFlip c (putRun 0 p g (zeros (suc n))) p g n head ws
+      made fits rest =
+          let many = length-zeros (suc n) in
+          record {
+            shape = sym (run-fit c 0 p g (zeros (suc n)));
+            opens = o;
+            begins = b;
+            long = len;
+            fits = fits;
+            were =
+                λ i x y.
+                run-in c 0 p g (zeros (suc n)) (omega arith) shape (omega arith) (i - g) i (omega arith) (omega arith) (mid-off p i (inside i x y))
+                ∙ ap (kindOf false false) (getD-zeros (suc n) (i - g)) ∙ kind-free;
+            first = e;
+            rest = rest;
+            others = λ i x. run-out c 0 p g (zeros (suc n)) (omega arith) shape (omega arith) i (⊎-elim inl (λ a. inr (omega arith)) x);
+            same = λ i s. run-slots c 0 p g (zeros (suc n)) i s;
+            idle = λ s x. run-slots c 0 p g (zeros (suc n)) g s ∙ idle s x;
+          }
+        where
+          inside : (i : ℕ) → g ≤ i → i < g + suc n → Mid (kindAt p i)
+          inside i x y =
+              by-cases (ℕ-discrete i g) (λ q. subst Mid (sym (ap (kindAt p) q ∙ e)) mid)
+              (λ q.
+              let r : i ≡ suc g + (i - suc g) = omega arith in
+              subst Mid (sym (ap (kindAt p) r ∙ rest (i - suc g) (omega arith))) tt)
+
+  pub put-large : (g k : ℕ) → k < 511 → g + suc k ≤ 512 * c → ((i : ℕ) → g ≤ i → i < g + suc k → kindAt p i ≡ free)
+      → Gains c p (putRun 1 p g (wordsOf (large k))) (runBlock g k)
+  put-large g k l fits were =
+      let f =
+      take-run g k (0x40000000 + suc k) (large k) (zeros k) refl (large-begins k) (length-zeros k)
+      (kind-large (0x40000000 + suc k) (omega arith) (omega arith) ∙ ap large (omega arith))
+      (λ i x. kind-zero (getD (zeros k) i 0) (getD-zeros k i)) fits were in
+      gains (run-alike f) (run-ins f (runBlock g k) here) h
+
+  pub give-large : (g k : ℕ) → g < 512 * c → kindAt p g ≡ large k → Loses c p (putRun 0 p g (zeros (suc k))) (runBlock g k)
+  give-large g k l e =
+      let f = give-run g k (large k) (zeros k) refl (large-begins k) (length-zeros k) tt l e (idle-at g l (ap slotsOf e)) in
+      loses (run-alike f) (run-ins f (runBlock g k) here) h
+
+  -- ---- slots
+
+  pub put-slot : (g b s : ℕ) → g < 512 * c → kindAt p g ≡ class b → s < slots b → slotAt p g s ≡ false
+      → Gains c p (putSlot 1 p g s) (slotBlock g b s)
+  put-slot g b s l e n z =
+      let few = any-row b .slots-most in
+      let f : SlotFlip c p (putSlot 1 p g s) g b s =
+      record {
+        shape = slot-fit c 1 p g s;
+        inside = l;
+        run = e;
+        slot = n;
+        kinds = λ i. sym (slot-kinds c 1 p g s i);
+        was = z;
+        now = slot-same c 1 p g s (omega arith) shape l (omega arith);
+        others = λ i j d. sym (slot-other c 1 p g s (omega arith) shape l (omega arith) i j d);
+      } in
+      gains (slot-alike f) (slot-ins f) h
+
+  pub give-slot : (g b s : ℕ) → g < 512 * c → kindAt p g ≡ class b → s < slots b → slotAt p g s ≡ true
+      → Loses c p (putSlot 0 p g s) (slotBlock g b s)
+  give-slot g b s l e n z =
+      let few = any-row b .slots-most in
+      let f : SlotFlip c (putSlot 0 p g s) p g b s =
+      record {
+        shape = sym (slot-fit c 0 p g s);
+        inside = l;
+        run = slot-kinds c 0 p g s g ∙ e;
+        slot = n;
+        kinds = slot-kinds c 0 p g s;
+        was = slot-same c 0 p g s (omega arith) shape l (omega arith);
+        now = z;
+        others = slot-other c 0 p g s (omega arith) shape l (omega arith);
+      } in
+      loses (slot-alike f) (slot-ins f) h
+
+  -- ---- a new run of a class
+
+  take-class : (g b : ℕ) → b < 30 → g + suc (behind b) ≤ 512 * c → ((i : ℕ) → g ≤ i → i < g + suc (behind b) → kindAt p i ≡ free)
+      → RunFlip c p (putRun 1 p g (wordsOf (class b))) g (behind b) (class b) (innerWords b 1 (behind b))
+  take-class g b l fits were =
+      take-run g (behind b) (0x80000000 + b) (class b) (innerWords b 1 (behind b)) refl (class-begins b) (length-inner b 1 (behind b))
+      (kind-class (0x80000000 + b) (omega arith) (omega arith) ∙ ap class (omega arith))
+      (λ i x. kind-inner (getD (innerWords b 1 (behind b)) i 0) (omega (arith, getD-inner b 1 (behind b) i x))) fits were
+
+-- its slots are free, so it begins no block; then slot 0 is taken
+pub put-class : (c : ℕ) (p : Pool) → Good c p → (g b : ℕ) → b < 30 → g + suc (behind b) ≤ 512 * c
+    → ((i : ℕ) → g ≤ i → i < g + suc (behind b) → kindAt p i ≡ free)
+    → Gains c p (putSlot 1 (putRun 1 p g (wordsOf (class b))) g 0) (slotBlock g b 0)
+put-class c p h g b l fits were =
+    let q : Pool = putRun 1 p g (wordsOf (class b)) in
+    let f = take-class c p h g b l fits were in
+    let few = any-row b .slots-most in
+    let none : (s : ℕ) → s < 512 → slotAt q g s ≡ false = λ s x. sym (f .same g s) ∙ f .idle s x in
+    let same : live c p ≡ live c q =
+    run-same f (flat-nil (λ s. when (slotAt q g s) (slotBlock g b s)) 0 (slots b)
+    (λ s x y. ap (λ (t : Bool). when t (slotBlock g b s)) (none s (omega arith)))) in
+    let r =
+    put-slot c q (alike-good (run-alike f) h) g b 0 (omega arith) (f .first) (omega (arith, row-facts b l .slots-least)) (none 0 (omega arith)) in
+    record { good = r .good; more = subst (λ (x : List Block). Ins (slotBlock g b 0) x (live c (putSlot 1 q g 0))) (sym same) (r .more) }
+
+-- ---- fresh records
+
+pub fresh-empty : (c : ℕ) → live c (freshPool c) ≡ []
+unfolding live
+fresh-empty c =
+    flat-nil (λ g. blocksAt g (kindAt (freshPool c) g) (slotAt (freshPool c) g)) 0 (512 * c)
+    (λ g a l. by-cases (ℕ-discrete (g % 512) 0)
+    (λ e. ap (λ (k : Kind). blocksAt g k (slotAt (freshPool c) g)) (fresh-edge c g (omega arith) e))
+    (λ e. ap (λ (k : Kind). blocksAt g k (slotAt (freshPool c) g)) (fresh-free c g (omega arith) e)))

@@ -1,0 +1,6 @@
+pub mod FlatLaws
+pub mod SeamLaws
+pub mod StoreLaws
+pub mod FlipLaws
+pub mod KeepLaws
+pub mod ApartLaws

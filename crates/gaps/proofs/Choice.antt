@@ -1,0 +1,117 @@
+-- The choice among a chunk's gaps: it is the shortest gap that holds n pages, the lowest on a tie, and there is none where no gap holds them.
+-- Assumes nothing.
+use mathlib.Core.Path.{_≡_, refl, sym, ap, ap₂, subst}
+use mathlib.Core.Logic.{_⊎_, inl, inr, ⊎-elim}
+use mathlib.Core.Bool.{Bool, cond, _&&_}
+use mathlib.Core.List.{List, [], _∷_}
+use Prim.Native.Nat.{ℕ, _*_, _≤_, _<_}
+use native.Mathlib.Omega.{arith}
+use borrow.Author.Tests.{le-leb, lt-leb, lt-ltb, le-ltb}
+use lib.Dec.{ltb}
+use Rattle.bitrow.proofs.Rows.{lt-or-ge}
+use Rattle.gaps.specs.declared.Gap.{Gap}
+use Rattle.gaps.specs.declared.Found.{Found}
+use Rattle.gaps.specs.declared.Found.the-variants.{At, Nothing}
+use Rattle.gaps.specs.Gaps.{gapsOf, noGap, better, shortest, foundAt, findInChunk, IsGap, IsBest, HoldsNone, In}
+use Rattle.gaps.proofs.Listed.{listed-gap, gap-listed, Rising, gaps-rise}
+
+-- y is the shortest of best and the gaps of xs that hold n pages, and the first of those
+record Chosen (n : ℕ) (best : Gap) (xs : List Gap) (y : Gap) : Type 0 where
+  from : (y ≡ best) ⊎ (In y xs × (n ≤ y .len) × (y .len < best .len))
+  least : (x : Gap) → In x xs → n ≤ x .len → y .len ≤ x .len
+  first : (x : Gap) → In x xs → n ≤ x .len → x .len ≡ y .len → (y ≡ best) ⊎ (y .at ≤ x .at)
+
+len-of : {x y : Gap} → x ≡ y → x .len ≡ y .len
+len-of e = ap (λ (z : Gap). z .len) e
+
+at-of : {x y : Gap} → x ≡ y → x .at ≡ y .at
+at-of e = ap (λ (z : Gap). z .at) e
+
+module _ (n : ℕ) where
+  better-took : (x best : Gap) → n ≤ x .len → x .len < best .len → better n x best ≡ x
+  better-took x best a b = ap₂ (λ (s t : Bool). cond (s && t) x best) (le-leb n (x .len) a) (lt-ltb (x .len) (best .len) b)
+
+  better-short : (x best : Gap) → x .len < n → better n x best ≡ best
+  better-short x best a = ap (λ (s : Bool). cond (s && ltb (x .len) (best .len)) x best) (lt-leb n (x .len) a)
+
+  better-kept : (x best : Gap) → n ≤ x .len → best .len ≤ x .len → better n x best ≡ best
+  better-kept x best a b = ap₂ (λ (s t : Bool). cond (s && t) x best) (le-leb n (x .len) a) (le-ltb (x .len) (best .len) b)
+
+  -- x is the best now
+  chosen-took : (x best : Gap) (xs : List Gap) (y : Gap) → ((z : Gap) → In z xs → x .at ≤ z .at) → n ≤ x .len → x .len < best .len
+      → Chosen n x xs y → Chosen n best (x ∷ xs) y
+  chosen-took x best xs y rise a b ch = record {
+    from = inr (⊎-elim (λ e. (inl e, omega (arith, len-of e), omega (arith, len-of e))) (λ t. (inr (t .0), t .1, omega (arith, t .2))) (ch .from));
+    least = λ z i h. ⊎-elim (λ e. omega (arith, len-of e, y≤x)) (λ j. ch .least z j h) i;
+    first = λ z i h q. inr (⊎-elim (λ e. mine z e q) (λ j. ⊎-elim (λ e. omega (arith, at-of e, rise z j)) (λ l. l) (ch .first z j h q)) i);
+  }
+    where
+      y≤x : y .len ≤ x .len
+      y≤x = ⊎-elim (λ e. omega (arith, len-of e)) (λ t. omega (arith, t .2)) (ch .from)
+
+      mine : (z : Gap) → z ≡ x → z .len ≡ y .len → y .at ≤ z .at
+      mine z e q = ⊎-elim (λ d. omega (arith, at-of d, at-of e)) (λ t. absurd (omega (arith, t .2, len-of e))) (ch .from)
+
+  -- the best is as it was
+  chosen-kept : (x best : Gap) (xs : List Gap) (y : Gap) → (n ≤ x .len → best .len ≤ x .len) → Chosen n best xs y → Chosen n best (x ∷ xs) y
+  chosen-kept x best xs y keep ch = record {
+    from = ⊎-elim (λ e. inl e) (λ t. inr (inr (t .0), t .1, t .2)) (ch .from);
+    least = λ z i h. ⊎-elim (λ e. omega (arith, y≤best, keep (omega (arith, len-of e)), len-of e)) (λ j. ch .least z j h) i;
+    first = λ z i h q. ⊎-elim (λ e. inl (mine z e h q)) (λ j. ch .first z j h q) i;
+  }
+    where
+      y≤best : y .len ≤ best .len
+      y≤best = ⊎-elim (λ e. omega (arith, len-of e)) (λ t. omega (arith, t .2)) (ch .from)
+
+      mine : (z : Gap) → z ≡ x → n ≤ z .len → z .len ≡ y .len → y ≡ best
+      mine z e h q = ⊎-elim (λ d. d) (λ t. absurd (omega (arith, t .2, keep (omega (arith, len-of e)), len-of e))) (ch .from)
+
+  shortest-chosen : (xs : List Gap) (best : Gap) → Rising xs → Chosen n best xs (shortest n best xs)
+  unfolding shortest
+  shortest-chosen [] best r = record { from = inl refl; least = λ x i h. absurd i; first = λ x i h q. absurd i }
+  shortest-chosen (x ∷ xs) best r =
+      ⊎-elim
+      (λ a. subst (λ (b : Gap). Chosen n best (x ∷ xs) (shortest n b xs)) (sym (better-short x best a))
+      (chosen-kept x best xs _ (λ h. absurd (omega arith)) (shortest-chosen xs best (r .1))))
+      (λ a. ⊎-elim
+      (λ b. subst (λ (z : Gap). Chosen n best (x ∷ xs) (shortest n z xs)) (sym (better-took x best a b))
+      (chosen-took x best xs _ (r .0) a b (shortest-chosen xs x (r .1))))
+      (λ b. subst (λ (z : Gap). Chosen n best (x ∷ xs) (shortest n z xs)) (sym (better-kept x best a b))
+      (chosen-kept x best xs _ (λ h. b) (shortest-chosen xs best (r .1))))
+      (lt-or-ge (x .len) (best .len)))
+      (lt-or-ge (x .len) n)
+
+-- what an answer for chunk k means
+abbrev pub InChunk : List ℕ → ℕ → ℕ → Found → Type 0
+InChunk bits k n (At a) = (x : Gap) × (x .at ≡ a) × IsBest bits k n x
+InChunk bits k n Nothing = HoldsNone bits k n
+
+module _ (bits : List ℕ) (k n : ℕ) where
+  answered : (y : Gap) → Chosen n noGap (gapsOf bits k) y → InChunk bits k n (foundAt y)
+  answered y ch =
+      ⊎-elim
+      (λ h. subst Goal (sym (lt-ltb (y .len) 512 h)) (y, refl, best h))
+      (λ h. subst Goal (sym (le-ltb (y .len) 512 h)) (none h))
+      (lt-or-ge (y .len) 512)
+    where
+      Goal : Bool → Type 0
+      Goal b = InChunk bits k n (cond b (At (y .at)) Nothing)
+
+      one : y .len < 512 → In y (gapsOf bits k) × (n ≤ y .len)
+      one h = ⊎-elim (λ e. absurd (omega (arith, len-of e))) (λ t. (t .0, t .1)) (ch .from)
+
+      best : y .len < 512 → IsBest bits k n y
+      best h = record {
+        is = listed-gap bits k y (one h .0);
+        holds = one h .1;
+        least = λ z i l. ch .least z (gap-listed bits k z i) l;
+        lowest = λ z i q. ⊎-elim (λ e. absurd (omega (arith, len-of e))) (λ l. l) (ch .first z (gap-listed bits k z i) (omega (arith, one h .1)) q);
+      }
+
+      none : 512 ≤ y .len → HoldsNone bits k n
+      none h z i =
+          ⊎-elim (λ l. l) (λ l. absurd (omega (arith, ch .least z (gap-listed bits k z i) l, i .low, i .high))) (lt-or-ge (z .len) n)
+
+  pub chunk-means : InChunk bits k n (findInChunk bits k n)
+  unfolding findInChunk
+  chunk-means = answered (shortest n noGap (gapsOf bits k)) (shortest-chosen n (gapsOf bits k) noGap (gaps-rise bits k))

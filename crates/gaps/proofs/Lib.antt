@@ -1,0 +1,5 @@
+pub mod Scan
+pub mod Listed
+pub mod Choice
+pub mod Answers
+pub mod Ext

@@ -1,0 +1,88 @@
+-- `gaps::find_in_chunk` meets its contract. The loop's invariant: the shortest of the best gap so far and the gaps from p on is that of all
+-- gaps of the chunk.
+-- Assumes nothing.
+use mathlib.Core.Path.{_≡_, refl}
+use Prim.Native.Nat.{_+_, _-_, _*_, _≤_}
+use native.Mathlib.Omega.{arith}
+use borrow.Author.Needs.{needs}
+use Rattle.gaps.proofs.Scan.{Best, best-start, best-turn, best-at, best-none}
+use Rattle.gaps.proofs.find_in_chunk.Statement.{statement}
+use Rattle.gaps.proofs.find_in_chunk.Tie as tie
+
+abbrev Inv-loop : tie.InvT-loop
+Inv-loop bits k n to p₀ best₀ p best = (to ≡ 512 * k + 512) × (512 * k + 1 ≤ p) × (p ≤ to) × Best bits k n to p best
+
+abbrev μ-loop : tie.MeasureT-loop
+μ-loop bits k n to p₀ best₀ p best = to - p
+
+mul-to : tie.Need-mul-to Inv-loop μ-loop
+mul-to c = search needs
+
+add-to : tie.Need-add-to Inv-loop μ-loop
+add-to c = search needs
+
+mul-p : tie.Need-mul-p Inv-loop μ-loop
+mul-p c = search needs
+
+add-p : tie.Need-add-p Inv-loop μ-loop
+add-p c = search needs
+
+loop-holds : tie.Need-loop-holds Inv-loop μ-loop
+loop-holds c = (refl, omega arith, omega arith, best-start (c .before .args .bits .now) (c .before .args .k) _ _ _ refl refl)
+
+next-gap-requires : tie.Need-next-gap-requires Inv-loop μ-loop
+next-gap-requires c κs = omega arith
+
+better-gap-requires : tie.Need-better-gap-requires Inv-loop μ-loop
+better-gap-requires c κs = search needs
+
+add-p-2 : tie.Need-add-p-2 Inv-loop μ-loop
+add-p-2 c = omega (arith, c .before .before .next-gap .ensures .high)
+
+loop-less : tie.Need-loop-less Inv-loop μ-loop
+loop-less c =
+    let g = c .before .before .next-gap .ensures in
+    omega (arith, g .high, g .passes)
+
+loop-again : tie.Need-loop-again Inv-loop μ-loop
+loop-again c =
+    let start = c .before .before .before .before .before .before in
+    let g = c .before .before .next-gap .ensures in
+    let l = c .before .before .before .before .loop in (
+      refl,
+      omega (arith, g .passes),
+      omega (arith, g .high),
+      best-turn (start .args .bits .now) (start .args .k) _ _ (l .p) _ _ (l .best) _ (start .pre .2) g (omega arith)
+          (c .before .better-gap .ensures) (l .inv .3),
+    )
+
+returns : tie.Need-returns Inv-loop μ-loop
+returns c =
+    let l = c .before .before .before .loop in
+    let start = c .before .before .before .before .before in
+    best-at (start .args .bits .now) (start .args .k) (start .args .n) _ (l .p) (l .best) (omega arith) (l .inv .3) (c .if1 .taken)
+
+returns-2 : tie.Need-returns-2 Inv-loop μ-loop
+returns-2 c =
+    let l = c .before .before .before .loop in
+    let start = c .before .before .before .before .before in
+    best-none (start .args .bits .now) (start .args .k) (start .args .n) _ (l .p) (l .best) (omega arith) (l .inv .3) (c .if1 .left)
+
+pub find-in-chunk-spec : {M : Type 1} → statement M
+find-in-chunk-spec =
+    tie.close
+    (tie.spec
+    Inv-loop
+    μ-loop
+    mul-to
+    add-to
+    mul-p
+    add-p
+    loop-holds
+    next-gap-requires
+    better-gap-requires
+    add-p-2
+    loop-less
+    loop-again
+    returns
+    returns-2)

@@ -1,0 +1,125 @@
+-- Finding n pages (document 01, "Taking and giving back"): the chunk with the lowest number that has a gap of at least n; in it, the
+-- shortest such gap, the lower one on a tie; the run starts at the gap's first page. A gap is a longest stretch of free pages.
+-- Pages are counted through the pool, page p of chunk k as 512 * k + p, and bit g of the row of page bits is 1 where page g is taken.
+-- Assumes nothing.
+use mathlib.Core.Path.{_≡_}
+use mathlib.Core.Logic.{_⊎_, _↔_}
+use mathlib.Core.Bool.{Bool, cond, _&&_}
+use mathlib.Core.List.{List, [], _∷_}
+use Prim.Native.Nat.{ℕ, zero, suc, _+_, _-_, _*_, _/_, _≤_, _<_}
+use lib.Dec.{eqb, ltb, leb}
+use Rattle.bitrow.specs.Row.{bitAt}
+use Rattle.gaps.specs.declared.Gap.{Gap}
+use Rattle.gaps.specs.declared.Found.{Found}
+use Rattle.gaps.specs.declared.Found.the-variants.{At, Nothing}
+
+abbrev pub isFree : List ℕ → ℕ → Bool
+isFree bits g = eqb (bitAt bits g) 0
+
+abbrev pub gap : ℕ → ℕ → Gap
+gap a l = record { at = a; len = l }
+
+-- the gap of l pages at a in front of others; no pages are no gap
+abbrev pub withGap : ℕ → ℕ → List Gap → List Gap
+withGap a zero others = others
+withGap a (suc l) others = gap a (suc l) ∷ others
+
+-- The gaps of the m pages from g on, by rising first page. The l pages right before g are free, and belong to the gap that is open at g.
+-- It ends before a taken page, and behind the last page.
+unfoldable pub gapsFrom : List ℕ → ℕ → ℕ → ℕ → List Gap
+gapsFrom bits g zero l = withGap (g - l) l []
+gapsFrom bits g (suc m) l =
+    let others = gapsFrom bits (g + 1) m (cond (isFree bits g) (l + 1) 0) in
+    cond (isFree bits g) others (withGap (g - l) l others)
+
+-- the gaps of chunk k: its page 0 belongs to none
+unfoldable pub gapsOf : List ℕ → ℕ → List Gap
+gapsOf bits k = gapsFrom bits (512 * k + 1) 511 0
+
+-- no gap: it is longer than each gap of a chunk
+abbrev pub noGap : Gap
+noGap = gap 0 512
+
+-- x, where it holds n pages and is shorter than the best gap before it
+abbrev pub better : ℕ → Gap → Gap → Gap
+better n x best = cond (leb n (x .len) && ltb (x .len) (best .len)) x best
+
+-- the shortest of `best` and those of the gaps that hold n pages, the first of them on a tie
+unfoldable pub shortest : ℕ → Gap → List Gap → Gap
+shortest n best [] = best
+shortest n best (x ∷ xs) = shortest n (better n x best) xs
+
+abbrev pub foundAt : Gap → Found
+foundAt best = cond (ltb (best .len) 512) (At (best .at)) Nothing
+
+-- n pages in chunk k
+unfoldable pub findInChunk : List ℕ → ℕ → ℕ → Found
+findInChunk bits k n = foundAt (shortest n noGap (gapsOf bits k))
+
+abbrev pub orElse : Found → Found → Found
+orElse (At g) next = At g
+orElse Nothing next = next
+
+-- n pages in the first of the m chunks from k on that has them
+unfoldable pub findFrom : List ℕ → ℕ → ℕ → ℕ → Found
+findFrom bits n k zero = Nothing
+findFrom bits n k (suc m) = orElse (findInChunk bits k n) (findFrom bits n (k + 1) m)
+
+-- n pages in a pool of c chunks
+unfoldable pub findPages : ℕ → List ℕ → ℕ → Found
+findPages c bits n = findFrom bits n 0 c
+
+-- ---- the search reads a chunk from gap to gap
+
+-- behind the last page of page p's chunk
+abbrev pub endOf : ℕ → ℕ
+endOf p = 512 * (p / 512) + 512
+
+-- x is the first gap of the pages from p up to, not including, e; it has no pages where they have no gap
+pub record NextGap (bits : List ℕ) (p e : ℕ) (x : Gap) : Type 0 where
+  pub low : p ≤ x .at
+  pub high : x .at + x .len ≤ e
+  pub passes : p < x .at + x .len
+  pub gaps : gapsFrom bits p (e - p) 0 ≡ withGap (x .at) (x .len) (gapsFrom bits (x .at + x .len) (e - (x .at + x .len)) 0)
+
+-- ---- what these definitions mean
+
+-- a longest stretch of free pages of chunk k
+pub record IsGap (bits : List ℕ) (k : ℕ) (x : Gap) : Type 0 where
+  pub some : 1 ≤ x .len
+  pub low : 512 * k + 1 ≤ x .at
+  pub high : x .at + x .len ≤ 512 * k + 512
+  pub free : (i : ℕ) → x .at ≤ i → i < x .at + x .len → bitAt bits i ≡ 0
+  pub before : 512 * k + 1 < x .at → bitAt bits (x .at - 1) ≡ 1
+  pub after : x .at + x .len < 512 * k + 512 → bitAt bits (x .at + x .len) ≡ 1
+
+-- the shortest gap of chunk k that holds n pages, the lowest one on a tie
+pub record IsBest (bits : List ℕ) (k n : ℕ) (x : Gap) : Type 0 where
+  pub is : IsGap bits k x
+  pub holds : n ≤ x .len
+  pub least : (z : Gap) → IsGap bits k z → n ≤ z .len → x .len ≤ z .len
+  pub lowest : (z : Gap) → IsGap bits k z → z .len ≡ x .len → x .at ≤ z .at
+
+-- no gap of chunk k holds n pages
+abbrev pub HoldsNone : List ℕ → ℕ → ℕ → Type 0
+HoldsNone bits k n = (z : Gap) → IsGap bits k z → z .len < n
+
+-- g is the first page of the best gap of the first chunk that has one
+pub record IsPlace (c : ℕ) (bits : List ℕ) (n g : ℕ) : Type 0 where
+  pub chunk : ℕ
+  pub exists : chunk < c
+  pub earlier : (i : ℕ) → i < chunk → HoldsNone bits i n
+  pub best : Gap
+  pub is : IsBest bits chunk n best
+  pub starts : best .at ≡ g
+
+-- x is one of the list
+abbrev pub In : Gap → List Gap → Type 0
+In x [] = ⊥
+In x (y ∷ ys) = (x ≡ y) ⊎ In x ys
+
+-- The claim: the list has the gaps of the chunk and nothing else, and the answer is document 01's.
+pub record GapsMean : Type 0 where
+  pub listed : (bits : List ℕ) (k : ℕ) (x : Gap) → In x (gapsOf bits k) ↔ IsGap bits k x
+  pub found : (c : ℕ) (bits : List ℕ) (n g : ℕ) → (findPages c bits n ≡ At g) ↔ IsPlace c bits n g
+  pub nothing : (c : ℕ) (bits : List ℕ) (n : ℕ) → (findPages c bits n ≡ Nothing) ↔ ((k : ℕ) → k < c → HoldsNone bits k n)
