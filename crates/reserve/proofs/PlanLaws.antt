@@ -1,0 +1,273 @@
+-- What a reserve finds: free slots and free pages. Assumes nothing.
+use mathlib.Core.Path.{_≡_, refl, sym, ap, ap₂, _∙_, subst}
+use mathlib.Core.Logic.{_≢_, by-cases}
+use mathlib.Core.Bool.{Bool, true, false, cond, _&&_, false≢true}
+use mathlib.Core.List.{List}
+use Prim.Native.Nat.{ℕ, zero, suc, _+_, _-_, _*_, _/_, _≤_, _<_}
+use native.Mathlib.Decide.{ℕ-discrete, decLt}
+use native.Mathlib.Omega.{arith}
+use lib.Dec.{eqb, ltb, leb}
+use lib.ListN.{length, getD}
+use borrow.Author.Tests.{eq-eqb, ne-eqb, eqb-true, ltb-true, ltb-false, lt-ltb}
+use Rattle.bitrow.specs.Row.{bitAt, isSet, nextBit}
+use Rattle.bitrow.proofs.Rows.{First, next-first}
+use Rattle.classes.specs.Classes.{size, slots, pages, classFor}
+use Rattle.classes.proofs.ClassLaws.{any-row, row-facts, class-smallest}
+use Rattle.records.specs.Kinds.{Kind, edge, free, damaged, large, class, inner, kindOf}
+use Rattle.records.specs.Pool.{Pool, isEdge, kindAt, slotAt}
+use Rattle.records.specs.Sound.{sound}
+use Rattle.records.specs.Calls.{admitOf}
+use Rattle.records.proofs.Flags.{flag-eq, and-left, and-right, cond-lt, cond-nlt, cond-le, cond-nle, eq-cases, lt-cases, le-cases}
+use Rattle.records.proofs.RunLaws.{class-at-low}
+use Rattle.records.proofs.WordLaws.{page-class, page-free}
+use Rattle.records.proofs.AdmitLaws.{Admitted, admitted}
+use Rattle.gaps.specs.declared.Found.{Found}
+use Rattle.gaps.specs.declared.Found.the-variants.{At, Nothing}
+use Rattle.gaps.specs.Gaps.{findPages}
+use Rattle.gaps.proofs.Answers.{FreeRun, found-free}
+use Rattle.reserve.specs.declared.Plan.{Plan}
+use Rattle.reserve.specs.declared.Plan.the-variants.{Refuse, InRun, NewRun, NewLarge}
+use Rattle.reserve.specs.Reserve.{freeSlot, isRunOf, hasSlot, slotPage, ifFound, slotOrRun, planSlot, planRun, pagesFor, plan}
+use Rattle.reserve.specs.Plans.{SlotFree, PagesFree, PlanOk}
+
+-- ---- the lowest free slot of a run
+
+pub free-first : (bits : List ℕ) (b g : ℕ) → First bits (512 * g) (512 * g + slots b) 0 (512 * g + freeSlot bits b g)
+unfolding freeSlot
+free-first bits b g =
+    let e : 512 * g + slots b - 512 * g ≡ slots b = omega arith in
+    let f : First bits (512 * g) (512 * g + slots b) 0 (nextBit 0 bits (512 * g) (slots b)) =
+          subst (λ (n : ℕ). First bits (512 * g) (512 * g + slots b) 0 (nextBit 0 bits (512 * g) n)) e
+          (next-first bits (512 * g) (512 * g + slots b) 0 (omega arith) (omega arith)) in
+    let l = f .low in
+    let r : nextBit 0 bits (512 * g) (slots b) ≡ 512 * g + (nextBit 0 bits (512 * g) (slots b) - 512 * g) = omega arith in
+    subst (First bits (512 * g) (512 * g + slots b) 0) r f
+
+-- ---- a run of the class, by its first word
+
+abbrev FirstWord : ℕ → Kind → Type 0
+FirstWord w edge = Unit {0}
+FirstWord w free = Unit {0}
+FirstWord w damaged = Unit {0}
+FirstWord w (large k) = Unit {0}
+FirstWord w (class b) = w ≡ 0x80000000 + b
+FirstWord w (inner x) = Unit {0}
+
+kind-first : (v t : Bool) (w : ℕ) → FirstWord w (kindOf v t w)
+kind-first true false w = tt
+kind-first true true w = eq-cases (FirstWord w) w 0x40000001 (λ a. tt) (λ a. tt)
+kind-first false false w = eq-cases (FirstWord w) w 0 (λ a. tt) (λ a. tt)
+kind-first false true w =
+    le-cases (FirstWord w) 0xC0000000 w (λ a. tt)
+    (λ a. le-cases (FirstWord w) 0x80000000 w (λ b. lt-cases (FirstWord w) w 0x8000001E (λ d. omega arith) (λ d. tt))
+      (λ b. le-cases (FirstWord w) 0x40000001 w (λ d. lt-cases (FirstWord w) w 0x40000200 (λ e. tt) (λ e. tt))
+        (λ d. eq-cases (FirstWord w) w 0 (λ e. tt) (λ e. tt))))
+
+class-word : (p : Pool) (g b : ℕ) → kindAt p g ≡ class b → getD (p .words) g 0 ≡ 0x80000000 + b
+unfolding kindAt
+class-word p g b e = subst (FirstWord (getD (p .words) g 0)) e (kind-first (isEdge g) (isSet (p .bits) g) (getD (p .words) g 0))
+
+-- a kind that is a run of class b
+run-of : (b : ℕ) (k : Kind) → isRunOf b k ≡ true → k ≡ class b
+run-of b edge e = absurd (false≢true e)
+run-of b free e = absurd (false≢true e)
+run-of b damaged e = absurd (false≢true e)
+run-of b (large k) e = absurd (false≢true e)
+run-of b (class d) e = ap class (eqb-true d b e)
+run-of b (inner w) e = absurd (false≢true e)
+
+module _ (c : ℕ) (p : Pool) (s : sound c p ≡ true) (b : ℕ) (bl : b < 30) where
+  -- the word of a page of sound records tells whether a run of class b starts there
+  word-run : (g : ℕ) → g < 512 * c → eqb (getD (p .words) g 0) (0x80000000 + b) ≡ isRunOf b (kindAt p g)
+  word-run g l =
+      flag-eq (eqb (getD (p .words) g 0) (0x80000000 + b)) (isRunOf b (kindAt p g))
+      (λ e. let w = eqb-true (getD (p .words) g 0) (0x80000000 + b) e in
+        let (n, k) = page-class c p s g l (omega arith) (omega arith) in
+        ap (isRunOf b) k ∙ eq-eqb (getD (p .words) g 0 - 0x80000000) b (omega arith))
+      (λ e. eq-eqb (getD (p .words) g 0) (0x80000000 + b) (class-word p g b (run-of b (kindAt p g) e)))
+
+  pub word-slot : (g : ℕ) → g < 512 * c → (t : Bool) {w f n : ℕ} → w ≡ getD (p .words) g 0 → f ≡ 0x80000000 + b → n ≡ slots b
+      → t ≡ eqb w f && ltb (freeSlot (p .slots) b g) n → t ≡ hasSlot p b g
+  unfolding hasSlot
+  word-slot g l t {w} {f} {n} ew ef en e =
+      e ∙ ap₂ (λ (x y : Bool). x && y) (ap₂ eqb ew ef ∙ word-run g l) (ap (ltb (freeSlot (p .slots) b g)) en)
+
+-- ---- the first page with a free slot
+
+-- the pages before g have none
+pub record Passed (p : Pool) (b n g : ℕ) : Type 0 where
+  pub says : slotPage p b g (n - g) ≡ slotPage p b 0 n
+
+pub passed-none : (p : Pool) (b n : ℕ) → Passed p b n 0
+passed-none p b n = let r : n - 0 ≡ n = omega arith in record { says = ap (slotPage p b 0) r }
+
+page-step : (p : Pool) (b g n : ℕ) (v : Bool) → hasSlot p b g ≡ v → slotPage p b g (suc n) ≡ cond v g (slotPage p b (suc g) n)
+unfolding slotPage
+page-step p b g n v e = ap (λ (t : Bool). cond t g (slotPage p b (suc g) n)) e
+
+module _ {p : Pool} {b n g : ℕ} (h : Passed p b n g) where
+  pub passed-on : g < n → {t : Bool} → t ≡ hasSlot p b g → t ≡ false → Passed p b n (g + 1)
+  passed-on l e f =
+      let r : n - g ≡ suc (n - (g + 1)) = omega arith in let q : g + 1 ≡ suc g = omega arith in
+      record {
+        says = ap (λ (x : ℕ). slotPage p b x (n - (g + 1))) q ∙ sym (page-step p b g (n - (g + 1)) false (sym e ∙ f))
+          ∙ ap (slotPage p b g) (sym r) ∙ h .says
+      }
+
+  pub passed-at : g < n → {t : Bool} → t ≡ hasSlot p b g → t ≡ true → g ≡ slotPage p b 0 n
+  passed-at l e f =
+      let r : n - g ≡ suc (n - (g + 1)) = omega arith in
+      sym (page-step p b g (n - (g + 1)) true (sym e ∙ f)) ∙ ap (slotPage p b g) (sym r) ∙ h .says
+
+  pub passed-all : g ≡ n → n ≡ slotPage p b 0 n
+  unfolding slotPage
+  passed-all e = let r : 0 ≡ n - g = omega arith in sym e ∙ ap (slotPage p b g) r ∙ h .says
+
+-- what the search answers
+pub record Searched (p : Pool) (b g n r : ℕ) : Type 0 where
+  pub low : g ≤ r
+  pub high : r ≤ g + n
+  pub here : r < g + n → hasSlot p b r ≡ true
+  pub before : (i : ℕ) → g ≤ i → i < r → hasSlot p b i ≡ false
+
+pub searched : (p : Pool) (b n g : ℕ) → Searched p b g n (slotPage p b g n)
+unfolding slotPage
+searched p b zero g = record { low = omega arith; high = omega arith; here = λ h. absurd (omega arith); before = λ i x y. absurd (omega arith) }
+searched p b (suc n) g = go (hasSlot p b g) refl (searched p b n (suc g))
+  where
+    go : (v : Bool) → hasSlot p b g ≡ v → Searched p b (suc g) n (slotPage p b (suc g) n) → Searched p b g (suc n) (cond v g (slotPage p b (suc g) n))
+    go true e s = record { low = omega arith; high = omega arith; here = λ h. e; before = λ i x y. absurd (omega arith) }
+    go false e s =
+        let a = s .low in let d = s .high in
+        record {
+          low = omega arith;
+          high = omega arith;
+          here = λ h. s .here (omega arith);
+          before = λ i x y. by-cases (ℕ-discrete i g) (λ q. ap (hasSlot p b) q ∙ e) (λ q. s .before i (omega arith) (omega arith))
+        }
+
+pub has-free : (c : ℕ) (p : Pool) (b g : ℕ) → g < 512 * c → hasSlot p b g ≡ true → SlotFree c p g b (freeSlot (p .slots) b g)
+unfolding hasSlot slotAt isSet
+has-free c p b g l e =
+    let k = run-of b (kindAt p g) (and-left (isRunOf b (kindAt p g)) (ltb (freeSlot (p .slots) b g) (slots b)) e) in
+    let h = ltb-true (freeSlot (p .slots) b g) (slots b) (and-right (isRunOf b (kindAt p g)) (ltb (freeSlot (p .slots) b g) (slots b)) e) in
+    record {
+      inside = l;
+      kind = k;
+      slot = h;
+      clear = ap (λ (x : ℕ). eqb x 1) (free-first (p .slots) b g .here (omega arith)) ∙ ne-eqb 0 1 (omega arith)
+    }
+
+-- ---- free pages
+
+bit-free : (p : Pool) (i : ℕ) → bitAt (p .bits) i ≡ 0 → isSet (p .bits) i ≡ false
+unfolding isSet
+bit-free p i e = ap (λ (x : ℕ). eqb x 1) e ∙ ne-eqb 0 1 (omega arith)
+
+module _ (c : ℕ) (p : Pool) (s : sound c p ≡ true) where
+  gap-free : (n g : ℕ) → 1 ≤ n → findPages c (p .bits) n ≡ At g → PagesFree c p g n
+  gap-free n g a e =
+      let f = found-free c (p .bits) n g e in
+      let x = f .exists in let y = f .inside in let z = f .off in
+      record {
+        some = a;
+        few = omega arith;
+        inside = omega arith;
+        clear = λ i u v. page-free c p s i (omega arith) (bit-free p i (f .free i u v))
+      }
+
+  run-ok : (n : ℕ) → 1 ≤ n → PlanOk c p (planRun c (p .bits) n)
+  unfolding planRun
+  run-ok n a = go (findPages c (p .bits) n) refl
+    where
+      go : (x : Found) → findPages c (p .bits) n ≡ x → PlanOk c p (ifFound x (λ g. NewLarge g n))
+      go (At g) e = gap-free n g a e
+      go Nothing e = tt
+
+  slot-ok : (b : ℕ) → b < 30 → PlanOk c p (planSlot c p b)
+  unfolding planSlot slotOrRun
+  slot-ok b l =
+      let s′ = searched p b (512 * c) 0 in
+      lt-cases (PlanOk c p) (slotPage p b 0 (512 * c)) (512 * c)
+      (λ h. has-free c p b (slotPage p b 0 (512 * c)) h (s′ .here (omega arith)))
+      (λ h. go (findPages c (p .bits) (pages b)) refl)
+    where
+      go : (x : Found) → findPages c (p .bits) (pages b) ≡ x → PlanOk c p (ifFound x (λ g. NewRun g b))
+      go (At g) e = (l, gap-free (pages b) g (row-facts b l .pages-least) e)
+      go Nothing e = tt
+
+pub plan-ok : (c : ℕ) (p : Pool) → sound c p ≡ true → (n : ℕ) → PlanOk c p (plan c p n)
+unfolding plan
+plan-ok c p s n =
+    le-cases (PlanOk c p) n 3072 (λ h. slot-ok c p s (classFor n) (class-smallest n h .class))
+    (λ h. le-cases (PlanOk c p) n 2093056 (λ k. run-ok c p s (pagesFor n) (omega arith)) (λ k. tt))
+
+-- ---- the code's own forms
+
+pub free-is : (bits : List ℕ) (b g n r : ℕ) → n ≡ slots b → r ≡ nextBit 0 bits (512 * g) (512 * g + n - 512 * g)
+    → (512 * g ≤ r) × (r - 512 * g ≡ freeSlot bits b g)
+unfolding freeSlot
+free-is bits b g n r e f =
+    let q : 512 * g + n - 512 * g ≡ slots b = omega arith in
+    let h : r ≡ nextBit 0 bits (512 * g) (slots b) = f ∙ ap (nextBit 0 bits (512 * g)) q in
+    let l = next-first bits (512 * g) (512 * g + n) 0 (omega arith) (omega arith) .low in
+    let k : 512 * g ≤ r = subst (λ (x : ℕ). 512 * g ≤ x) (sym f) l in
+    (k, ap (λ (x : ℕ). x - 512 * g) h)
+
+pub other-word : (w f : ℕ) (t : Bool) → w ≢ f → false ≡ (eqb w f && t)
+other-word w f t n = sym (ap (λ (x : Bool). x && t) (ne-eqb w f n))
+
+pub this-word : (w f r n m : ℕ) → w ≡ f → r ≡ m → ltb r n ≡ (eqb w f && ltb m n)
+this-word w f r n m e g = ap (λ (x : ℕ). ltb x n) g ∙ sym (ap (λ (x : Bool). x && ltb m n) (eq-eqb w f e))
+
+module _ (c : ℕ) (p : Pool) (b : ℕ) where
+  pub plan-in : (g s : ℕ) → g ≡ slotPage p b 0 (512 * c) → g < 512 * c → s ≡ freeSlot (p .slots) b g → InRun g b s ≡ planSlot c p b
+  unfolding planSlot slotOrRun
+  plan-in g s e l f = ap (InRun g b) f ∙ sym (ap (slotOrRun c p b) (sym e) ∙ cond-lt g (512 * c) _ _ l)
+
+  new-run : (g : ℕ) → g ≡ slotPage p b 0 (512 * c) → 512 * c ≤ g → ifFound (findPages c (p .bits) (pages b)) (λ f. NewRun f b) ≡ planSlot c p b
+  unfolding planSlot slotOrRun
+  new-run g e l = sym (ap (slotOrRun c p b) (sym e) ∙ cond-nlt g (512 * c) _ _ l)
+
+  pub plan-new : (g f n : ℕ) (x : Found) → g ≡ slotPage p b 0 (512 * c) → 512 * c ≤ g → n ≡ pages b → x ≡ findPages c (p .bits) n → x ≡ At f
+      → NewRun f b ≡ planSlot c p b
+  plan-new g f n x e l m h k =
+      ap (λ (y : Found). ifFound y (λ i. NewRun i b)) (sym k ∙ h ∙ ap (findPages c (p .bits)) m) ∙ new-run g e l
+
+  pub plan-none : (g n : ℕ) (x : Found) → g ≡ slotPage p b 0 (512 * c) → 512 * c ≤ g → n ≡ pages b → x ≡ findPages c (p .bits) n → x ≡ Nothing
+      → Refuse 4 ≡ planSlot c p b
+  plan-none g n x e l m h k =
+      ap (λ (y : Found). ifFound y (λ i. NewRun i b)) (sym k ∙ h ∙ ap (findPages c (p .bits)) m) ∙ new-run g e l
+
+module _ (c : ℕ) (bits : List ℕ) (n : ℕ) (x : Found) (h : x ≡ findPages c bits n) where
+  pub run-at : (g : ℕ) → x ≡ At g → NewLarge g n ≡ planRun c bits n
+  unfolding planRun
+  run-at g k = ap (λ (y : Found). ifFound y (λ i. NewLarge i n)) (sym k ∙ h)
+
+  pub run-none : x ≡ Nothing → Refuse 4 ≡ planRun c bits n
+  unfolding planRun
+  run-none k = ap (λ (y : Found). ifFound y (λ i. NewLarge i n)) (sym k ∙ h)
+
+module _ (c : ℕ) (p : Pool) (n : ℕ) where
+  pub plan-small : (b : ℕ) (x : Plan) → n ≤ 3072 → b ≡ classFor n → x ≡ planSlot c p b → x ≡ plan c p n
+  unfolding plan
+  plan-small b x l e f = f ∙ ap (planSlot c p) e ∙ sym (cond-le n 3072 _ _ l)
+
+  large-plan : 3072 < n → cond (leb n 2093056) (planRun c (p .bits) (pagesFor n)) (Refuse 3) ≡ plan c p n
+  unfolding plan
+  large-plan l = sym (cond-nle n 3072 _ _ l)
+
+  pub plan-large : (m : ℕ) (x : Plan) → 3072 < n → n ≤ 2093056 → m ≡ pagesFor n → x ≡ planRun c (p .bits) m → x ≡ plan c p n
+  plan-large m x l h e f = f ∙ ap (planRun c (p .bits)) e ∙ sym (cond-le n 2093056 _ _ h) ∙ large-plan l
+
+  pub plan-huge : 2093056 < n → Refuse 3 ≡ plan c p n
+  plan-huge h = sym (cond-nle n 2093056 _ _ h) ∙ large-plan (omega arith)
+
+pub class-few : {b n : ℕ} → b < 30 → n ≡ slots b → n ≤ 512
+class-few {b} l e = let h = row-facts b l in omega arith
+
+pub class-pages : {b n : ℕ} → b < 30 → n ≡ pages b → 1 ≤ n
+class-pages {b} l e = let h = row-facts b l in omega arith
+
+pub class-low : {n b : ℕ} → n ≤ 3072 → b ≡ classFor n → b < 30
+class-low {n} l e = let h = class-smallest n l .class in omega arith

@@ -1,0 +1,29 @@
+-- What a plan may rely on: the slot is free, the pages are free. Assumes nothing.
+use mathlib.Core.Path.{_≡_}
+use mathlib.Core.Bool.{false}
+use Prim.Native.Nat.{ℕ, _+_, _-_, _*_, _≤_, _<_}
+use Rattle.classes.specs.Classes.{slots, pages}
+use Rattle.records.specs.Kinds.{free, class}
+use Rattle.records.specs.Pool.{Pool, kindAt, slotAt}
+use Rattle.reserve.specs.declared.Plan.{Plan}
+use Rattle.reserve.specs.declared.Plan.the-variants.{Refuse, InRun, NewRun, NewLarge}
+
+-- slot s of the run of class b at page g is free
+pub record SlotFree (c : ℕ) (p : Pool) (g b s : ℕ) : Type 0 where
+  pub inside : g < 512 * c
+  pub kind : kindAt p g ≡ class b
+  pub slot : s < slots b
+  pub clear : slotAt p g s ≡ false
+
+-- the n pages from page g on are free
+pub record PagesFree (c : ℕ) (p : Pool) (g n : ℕ) : Type 0 where
+  pub some : 1 ≤ n
+  pub few : n ≤ 511
+  pub inside : g + n ≤ 512 * c
+  pub clear : (i : ℕ) → g ≤ i → i < g + n → kindAt p i ≡ free
+
+abbrev pub PlanOk : ℕ → Pool → Plan → Type 0
+PlanOk c p (Refuse r) = Unit {0}
+PlanOk c p (InRun g b s) = SlotFree c p g b s
+PlanOk c p (NewRun g b) = (b < 30) × PagesFree c p g (pages b)
+PlanOk c p (NewLarge g n) = PagesFree c p g n

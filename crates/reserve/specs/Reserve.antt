@@ -1,0 +1,100 @@
+-- Reserve (document 01, "Taking and giving back"): what is looked for, what is stored, what is answered. Assumes nothing.
+use mathlib.Core.Bool.{Bool, true, false, cond, _&&_}
+use mathlib.Core.List.{List}
+use Prim.Native.Nat.{ℕ, zero, suc, _+_, _-_, _*_, _/_}
+use lib.Dec.{eqb, ltb, leb}
+use Rattle.bitrow.specs.Row.{nextBit}
+use Rattle.classes.specs.Classes.{size, slots, pages, classFor}
+use Rattle.records.specs.Kinds.{Kind, edge, free, damaged, large, class, inner, wordsOf}
+use Rattle.records.specs.Pool.{Pool, kindAt}
+use Rattle.records.specs.Calls.{admitOf, unless, Left, leaves}
+use Rattle.gaps.specs.declared.Found.{Found}
+use Rattle.gaps.specs.declared.Found.the-variants.{At, Nothing}
+use Rattle.gaps.specs.Gaps.{findPages}
+use Rattle.blocks.specs.Stores.{putRun, putSlot}
+use Rattle.reserve.specs.declared.Plan.{Plan}
+use Rattle.reserve.specs.declared.Plan.the-variants.{Refuse, InRun, NewRun, NewLarge}
+use Rattle.reserve.specs.declared.SlotAt.{SlotAt}
+use Rattle.reserve.specs.declared.Given.{Given}
+use Rattle.reserve.specs.declared.Given.the-variants.{Slot, Run, None}
+use Rattle.reserve.specs.declared.Reserved.{Reserved}
+
+-- ---- the free slot with the lowest place among all runs of a class
+
+-- the number of the lowest free slot of a run of class b that starts at page g; the number of its slots where none is free
+unfoldable pub freeSlot : List ℕ → ℕ → ℕ → ℕ
+freeSlot bits b g = nextBit 0 bits (512 * g) (slots b) - 512 * g
+
+-- a run of class b starts at the page
+abbrev pub isRunOf : ℕ → Kind → Bool
+isRunOf b edge = false
+isRunOf b free = false
+isRunOf b damaged = false
+isRunOf b (large k) = false
+isRunOf b (class d) = eqb d b
+isRunOf b (inner w) = false
+
+-- a run of class b that has a free slot starts at page g
+unfoldable pub hasSlot : Pool → ℕ → ℕ → Bool
+hasSlot p b g = isRunOf b (kindAt p g) && ltb (freeSlot (p .slots) b g) (slots b)
+
+-- the first such page of the n pages from g on, or the page behind them
+unfoldable pub slotPage : Pool → ℕ → ℕ → ℕ → ℕ
+slotPage p b g zero = g
+slotPage p b g (suc n) = let later = slotPage p b (suc g) n in cond (hasSlot p b g) g later
+
+-- ---- what a reserve will do
+
+abbrev pub ifFound : Found → (ℕ → Plan) → Plan
+ifFound (At g) f = f g
+ifFound Nothing f = Refuse 4
+
+-- the lowest free slot of the run of class b at page g; or, where g is behind the last page, a new run
+unfoldable pub slotOrRun : ℕ → Pool → ℕ → ℕ → Plan
+slotOrRun c p b g = cond (ltb g (512 * c)) (InRun g b (freeSlot (p .slots) b g)) (ifFound (findPages c (p .bits) (pages b)) (λ f. NewRun f b))
+
+-- a slot of class b: in a run that stands, else in a new one
+unfoldable pub planSlot : ℕ → Pool → ℕ → Plan
+planSlot c p b = slotOrRun c p b (slotPage p b 0 (512 * c))
+
+-- a large run of n pages, by the page bits
+unfoldable pub planRun : ℕ → List ℕ → ℕ → Plan
+planRun c bits n = ifFound (findPages c bits n) (λ g. NewLarge g n)
+
+-- the pages that hold n bytes
+abbrev pub pagesFor : ℕ → ℕ
+pagesFor n = (n + 4095) / 4096
+
+unfoldable pub plan : ℕ → Pool → ℕ → Plan
+plan c p n = cond (leb n 3072) (planSlot c p (classFor n)) (cond (leb n 2093056) (planRun c (p .bits) (pagesFor n)) (Refuse 3))
+
+-- ---- what it stores
+
+abbrev pub perform : Pool → Plan → Pool
+perform p (Refuse r) = p
+perform p (InRun g b s) = putSlot 1 p g s
+perform p (NewRun g b) = putSlot 1 (putRun 1 p g (wordsOf (class b))) g 0
+perform p (NewLarge g n) = putRun 1 p g (wordsOf (large (n - 1)))
+
+-- ---- what it answers
+
+abbrev pub refused : ℕ → Reserved
+refused r = record { refusal = r; place = 0; size = 0; kind = None }
+
+abbrev pub slotGiven : ℕ → ℕ → ℕ → Reserved
+slotGiven g b s =
+    record { refusal = 0; place = 4096 * g + s * size b; size = size b; kind = Slot (record { class = b; first = g; number = s }) }
+
+abbrev pub answer : Plan → Reserved
+answer (Refuse r) = refused r
+answer (InRun g b s) = slotGiven g b s
+answer (NewRun g b) = slotGiven g b 0
+answer (NewLarge g n) = record { refusal = 0; place = 4096 * g; size = 4096 * n; kind = Run n }
+
+-- a try on given records
+unfoldable pub attempt : ℕ → Pool → ℕ → Left Reserved
+attempt c p n = leaves (answer (plan c p n)) (perform p (plan c p n))
+
+-- the call
+unfoldable pub reserveOf : ℕ → Pool → ℕ → Left Reserved
+reserveOf c p n = unless (admitOf c p) (λ r. leaves (refused r) p) (attempt c p n)
