@@ -7,11 +7,11 @@ use Prim.Native.Nat.{ℕ, zero, suc, _+_, _*_, _%_, _≤_, _<_}
 use native.Mathlib.Omega.{arith}
 use lib.Dec.{eqb}
 use lib.ListN.{length, getD, set, length-set}
-use lib.Seq.{sets, length-sets, getD-set-same, getD-set-other}
+use lib.Seq.{sets, length-sets, set-getD, getD-set-same, getD-set-other}
 use borrow.Author.Tests.{eq-eqb, ne-eqb}
 use Rattle.bitrow.specs.Row.{isSet}
 use Rattle.bitrow.proofs.Marks.{length-put-bit, length-put-bits, is-set-same, is-set-other, is-set-in, is-set-out}
-use Rattle.records.specs.Kinds.{Kind, free, kindOf}
+use Rattle.records.specs.Kinds.{Kind, free, kindOf, zeros}
 use Rattle.records.specs.Pool.{Pool, isEdge, kindAt, slotAt}
 use Rattle.records.specs.Calls.{fit}
 use Rattle.records.proofs.Flags.{eq-cases}
@@ -91,3 +91,16 @@ module _ (c v : ℕ) (p : Pool) (g s : ℕ) where
     pub slot-other : (i j : ℕ) → 512 * i + j ≢ 512 * g + s → slotAt (putSlot v p g s) i j ≡ slotAt p i j
     unfolding slotAt putSlot
     slot-other i j d = is-set-other v (p .slots) (512 * g + s) v01 (omega arith) (512 * i + j) d
+
+-- ---- a run whose pages behind the first have the word 0 already
+
+zeros-kept : (n : ℕ) (l : List ℕ) (i : ℕ) → ((j : ℕ) → i ≤ j → j < i + n → getD l j 0 ≡ 0) → sets l i (zeros n) ≡ l
+zeros-kept zero l i h = refl
+zeros-kept (suc n) l i h =
+    let e : set l i 0 ≡ l = ap (set l i) (sym (h i (omega arith) (omega arith))) ∙ set-getD l i 0 in
+    ap (λ (x : List ℕ). sets x (suc i) (zeros n)) e ∙ zeros-kept n l (suc i) (λ j a b. h j (omega arith) (omega arith))
+
+-- it takes one store
+pub first-stored : (w n : ℕ) (l : List ℕ) (g : ℕ) → ((i : ℕ) → g < i → i < g + suc n → getD l i 0 ≡ 0) → set l g w ≡ sets l g (w ∷ zeros n)
+first-stored w n l g h =
+    sym (zeros-kept n (set l g w) (suc g) (λ j x y. getD-set-other l g j w 0 (omega arith) ∙ h j (omega arith) (omega arith)))

@@ -1,17 +1,17 @@
 -- The answer for a pool, in document 01's words, and what a caller that takes the pages wants of them.
 -- Assumes nothing.
-use mathlib.Core.Path.{_≡_, refl, sym, ap, subst, _∙_}
-use mathlib.Core.Logic.{_⊎_, inl, inr, ⊎-elim}
+use mathlib.Core.Path.{_≡_, refl, ap, subst}
+use mathlib.Core.Logic.{⊎-elim}
 use mathlib.Core.List.{List}
-use Prim.Native.Nat.{ℕ, zero, suc, _+_, _-_, _*_, _/_, _%_, _≤_, _<_}
-use native.Mathlib.Nat.{zero-add, eq-or-lt-of-le}
+use Prim.Native.Nat.{ℕ, zero, suc, _+_, _*_, _/_, _%_, _≤_, _<_}
+use native.Mathlib.Nat.{zero-add}
 use native.Mathlib.Omega.{arith}
 use Rattle.bitrow.specs.Row.{bitAt}
 use Rattle.bitrow.proofs.Rows.{lt-or-ge}
 use Rattle.gaps.specs.declared.Gap.{Gap}
 use Rattle.gaps.specs.declared.Found.{Found}
 use Rattle.gaps.specs.declared.Found.the-variants.{At, Nothing}
-use Rattle.gaps.specs.Gaps.{findInChunk, orElse, findFrom, findPages, IsGap, IsBest, HoldsNone, IsPlace, GapsMean}
+use Rattle.gaps.specs.Gaps.{findInChunk, orElse, findFrom, findPages, IsBest, HoldsNone, IsPlace, GapsMean}
 use Rattle.gaps.proofs.Listed.{listed-gap, gap-listed}
 use Rattle.gaps.proofs.Choice.{InChunk, chunk-means}
 
@@ -26,7 +26,8 @@ module _ (c : ℕ) (bits : List ℕ) (n : ℕ) where
   Means Nothing = NoneBelow c
 
   -- chunk k, behind chunks that have no such gap, and what the chunks behind it give
-  chunk-or-else : (k : ℕ) (f next : Found) → k < c → NoneBelow k → InChunk bits k n f → (HoldsNone bits k n → Means next) → Means (orElse f next)
+  chunk-or-else : (k : ℕ) (f next : Found) → k < c → NoneBelow k → InChunk bits k n f
+      → (HoldsNone bits k n → Means next) → Means (orElse f next)
   chunk-or-else k (At g) next l h is rest = record { chunk = k; exists = l; earlier = h; best = is .0; is = is .2; starts = is .1 }
   chunk-or-else k Nothing next l h is rest = rest is
 

@@ -1,18 +1,18 @@
 -- The choice among a chunk's gaps: it is the shortest gap that holds n pages, the lowest on a tie, and there is none where no gap holds them.
 -- Assumes nothing.
-use mathlib.Core.Path.{_≡_, refl, sym, ap, ap₂, subst}
+use mathlib.Core.Path.{_≡_, refl, sym, ap, subst}
 use mathlib.Core.Logic.{_⊎_, inl, inr, ⊎-elim}
-use mathlib.Core.Bool.{Bool, cond, _&&_}
+use mathlib.Core.Bool.{Bool, cond}
 use mathlib.Core.List.{List, [], _∷_}
-use Prim.Native.Nat.{ℕ, _*_, _≤_, _<_}
+use Prim.Native.Nat.{ℕ, _≤_, _<_}
 use native.Mathlib.Omega.{arith}
-use borrow.Author.Tests.{le-leb, lt-leb, lt-ltb, le-ltb}
-use lib.Dec.{ltb}
+use borrow.Author.Tests.{lt-ltb, le-ltb}
 use Rattle.bitrow.proofs.Rows.{lt-or-ge}
 use Rattle.gaps.specs.declared.Gap.{Gap}
 use Rattle.gaps.specs.declared.Found.{Found}
 use Rattle.gaps.specs.declared.Found.the-variants.{At, Nothing}
-use Rattle.gaps.specs.Gaps.{gapsOf, noGap, better, shortest, foundAt, findInChunk, IsGap, IsBest, HoldsNone, In}
+use Rattle.gaps.specs.Gaps.{gapsOf, noGap, shortest, foundAt, findInChunk, IsBest, HoldsNone, In}
+use Rattle.gaps.proofs.Scan.{better-took, better-short, better-kept}
 use Rattle.gaps.proofs.Listed.{listed-gap, gap-listed, Rising, gaps-rise}
 
 -- y is the shortest of best and the gaps of xs that hold n pages, and the first of those
@@ -28,15 +28,6 @@ at-of : {x y : Gap} → x ≡ y → x .at ≡ y .at
 at-of e = ap (λ (z : Gap). z .at) e
 
 module _ (n : ℕ) where
-  better-took : (x best : Gap) → n ≤ x .len → x .len < best .len → better n x best ≡ x
-  better-took x best a b = ap₂ (λ (s t : Bool). cond (s && t) x best) (le-leb n (x .len) a) (lt-ltb (x .len) (best .len) b)
-
-  better-short : (x best : Gap) → x .len < n → better n x best ≡ best
-  better-short x best a = ap (λ (s : Bool). cond (s && ltb (x .len) (best .len)) x best) (lt-leb n (x .len) a)
-
-  better-kept : (x best : Gap) → n ≤ x .len → best .len ≤ x .len → better n x best ≡ best
-  better-kept x best a b = ap₂ (λ (s t : Bool). cond (s && t) x best) (le-leb n (x .len) a) (le-ltb (x .len) (best .len) b)
-
   -- x is the best now
   chosen-took : (x best : Gap) (xs : List Gap) (y : Gap) → ((z : Gap) → In z xs → x .at ≤ z .at) → n ≤ x .len → x .len < best .len
       → Chosen n x xs y → Chosen n best (x ∷ xs) y
@@ -71,12 +62,12 @@ module _ (n : ℕ) where
   shortest-chosen [] best r = record { from = inl refl; least = λ x i h. absurd i; first = λ x i h q. absurd i }
   shortest-chosen (x ∷ xs) best r =
       ⊎-elim
-      (λ a. subst (λ (b : Gap). Chosen n best (x ∷ xs) (shortest n b xs)) (sym (better-short x best a))
+      (λ a. subst (λ (b : Gap). Chosen n best (x ∷ xs) (shortest n b xs)) (sym (better-short n x best a))
       (chosen-kept x best xs _ (λ h. absurd (omega arith)) (shortest-chosen xs best (r .1))))
       (λ a. ⊎-elim
-      (λ b. subst (λ (z : Gap). Chosen n best (x ∷ xs) (shortest n z xs)) (sym (better-took x best a b))
+      (λ b. subst (λ (z : Gap). Chosen n best (x ∷ xs) (shortest n z xs)) (sym (better-took n x best a b))
       (chosen-took x best xs _ (r .0) a b (shortest-chosen xs x (r .1))))
-      (λ b. subst (λ (z : Gap). Chosen n best (x ∷ xs) (shortest n z xs)) (sym (better-kept x best a b))
+      (λ b. subst (λ (z : Gap). Chosen n best (x ∷ xs) (shortest n z xs)) (sym (better-kept n x best a b))
       (chosen-kept x best xs _ (λ h. b) (shortest-chosen xs best (r .1))))
       (lt-or-ge (x .len) (best .len)))
       (lt-or-ge (x .len) n)

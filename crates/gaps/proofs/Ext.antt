@@ -31,6 +31,7 @@ module _ (xs ys : List ℕ) where
   from-ext zero n k h = refl
   from-ext (suc m) n k h = ap₂ orElse (chunk-ext k n (λ i a. h i (omega arith))) (from-ext m n (k + 1) (λ i a. h i (omega arith)))
 
-pub find-ext : (c : ℕ) (xs ys : List ℕ) (n : ℕ) → ((i : ℕ) → i < 512 * c → bitAt xs i ≡ bitAt ys i) → findPages c xs n ≡ findPages c ys n
+pub find-ext : (c : ℕ) (xs ys : List ℕ) (n : ℕ) → ((i : ℕ) → i < 512 * c → bitAt xs i ≡ bitAt ys i)
+    → findPages c xs n ≡ findPages c ys n
 unfolding findPages
 find-ext c xs ys n h = from-ext xs ys c n 0 (λ i a. h i (omega arith))

@@ -22,7 +22,8 @@ record Open (bits : List ℕ) (k g l : ℕ) : Type 0 where
 
 module _ (bits : List ℕ) (k : ℕ) where
   -- the open gap ends before page g
-  ended : (g l : ℕ) → Open bits k g (suc l) → g ≤ 512 * k + 512 → (g < 512 * k + 512 → bitAt bits g ≡ 1) → IsGap bits k (gap (g - suc l) (suc l))
+  ended : (g l : ℕ) → Open bits k g (suc l) → g ≤ 512 * k + 512 → (g < 512 * k + 512 → bitAt bits g ≡ 1)
+      → IsGap bits k (gap (g - suc l) (suc l))
   ended g l o h t =
       let f = o .fits in
       let e : g - suc l + suc l ≡ g = omega arith in
@@ -154,7 +155,8 @@ module _ (bits : List ℕ) where
   at-from (suc m) g l y i =
       ⊎-elim
       (λ z. omega (arith, at-from m (g + 1) (l + 1) y (subst (In y) (gaps-free bits g m l z) i)))
-      (λ z. at-with (g - l) l (gapsFrom bits (g + 1) m 0) y (λ j. omega (arith, at-from m (g + 1) 0 y j)) (subst (In y) (gaps-taken bits g m l z) i))
+      (λ z. at-with (g - l) l (gapsFrom bits (g + 1) m 0) y (λ j. omega (arith, at-from m (g + 1) 0 y j))
+      (subst (In y) (gaps-taken bits g m l z) i))
       (free-or-taken bits g)
 
   rising-from : (m g l : ℕ) → Rising (gapsFrom bits g m l)

@@ -7,7 +7,7 @@ use mathlib.Core.List.{List}
 use Prim.Native.Nat.{ℕ, zero, suc, _+_, _-_, _*_, _≤_, _<_}
 use native.Mathlib.Nat.{zero-add, suc-add, add-zero, eq-or-lt-of-le}
 use native.Mathlib.Omega.{arith}
-use borrow.Author.Tests.{lt-leb, lt-ltb, le-ltb, eq-eqb, ne-eqb}
+use borrow.Author.Tests.{le-leb, lt-leb, lt-ltb, le-ltb, eq-eqb, ne-eqb}
 use lib.Dec.{ltb, lit<}
 use Rattle.bitrow.specs.Row.{bitAt, nextBit}
 use Rattle.bitrow.proofs.Words.{v-or-other}
@@ -23,7 +23,9 @@ free-or-taken bits g = v-or-other 0 (bitAt bits g) (lit< tt) (omega (arith, bit-
 module _ (bits : List ℕ) where
   -- one page, with l free ones before it: what the list is where its bit is known
   page : Bool → ℕ → ℕ → ℕ → List Gap
-  page free g m l = cond free (gapsFrom bits (g + 1) m (cond free (l + 1) 0)) (withGap (g - l) l (gapsFrom bits (g + 1) m (cond free (l + 1) 0)))
+  page free g m l =
+      let others = gapsFrom bits (g + 1) m (cond free (l + 1) 0) in
+      cond free others (withGap (g - l) l others)
 
   pub gaps-free : (g m l : ℕ) → bitAt bits g ≡ 0 → gapsFrom bits g (suc m) l ≡ gapsFrom bits (g + 1) m (l + 1)
   unfolding gapsFrom page
@@ -34,7 +36,8 @@ module _ (bits : List ℕ) where
   gaps-taken g m l e = ap (λ (t : Bool). page t g m l) (ne-eqb (bitAt bits g) 0 (λ z. omega arith))
 
   -- j free pages lengthen the open gap
-  skip-free : (j g m l : ℕ) → ((i : ℕ) → g ≤ i → i < g + j → bitAt bits i ≡ 0) → gapsFrom bits g (j + m) l ≡ gapsFrom bits (g + j) m (l + j)
+  skip-free : (j g m l : ℕ) → ((i : ℕ) → g ≤ i → i < g + j → bitAt bits i ≡ 0)
+      → gapsFrom bits g (j + m) l ≡ gapsFrom bits (g + j) m (l + j)
   skip-free zero g m l h = cc (zero-add m, add-zero g, add-zero l)
   skip-free (suc j) g m l h =
       ap (λ (x : ℕ). gapsFrom bits g x l) (suc-add j m)
@@ -43,7 +46,8 @@ module _ (bits : List ℕ) where
       ∙ ap₂ (λ (x y : ℕ). gapsFrom bits x m y) (omega arith) (omega arith)
 
   -- j taken pages are passed with no gap open
-  skip-taken : (j g m : ℕ) → ((i : ℕ) → g ≤ i → i < g + j → bitAt bits i ≡ 1) → gapsFrom bits g (j + m) 0 ≡ gapsFrom bits (g + j) m 0
+  skip-taken : (j g m : ℕ) → ((i : ℕ) → g ≤ i → i < g + j → bitAt bits i ≡ 1)
+      → gapsFrom bits g (j + m) 0 ≡ gapsFrom bits (g + j) m 0
   skip-taken zero g m h = cc (zero-add m, add-zero g)
   skip-taken (suc j) g m h =
       ap (λ (x : ℕ). gapsFrom bits g x 0) (suc-add j m)
@@ -92,7 +96,8 @@ module _ (bits : List ℕ) where
   pub reached : (v p to r : ℕ) → v < 2 → p ≤ to → r ≡ nextBit v bits p (to - p) → (p ≤ r) × (r ≤ to)
   reached v p to r d l e = let f = next-first bits p to v d l in (omega (arith, f .low), omega (arith, f .high))
 
-  pub next-gap : (p to a e : ℕ) → p < to → a ≡ nextBit 0 bits p (to - p) → e ≡ nextBit 1 bits a (to - a) → NextGap bits p to (gap a (e - a))
+  pub next-gap : (p to a e : ℕ) → p < to → a ≡ nextBit 0 bits p (to - p) → e ≡ nextBit 1 bits a (to - a)
+      → NextGap bits p to (gap a (e - a))
   next-gap p to a e l ea ee =
       let f : First bits p to 0 a = subst (First bits p to 0) (sym ea) (next-first bits p to 0 (lit< tt) (omega arith)) in
       let s : First bits a to 1 e = subst (First bits a to 1) (sym ee) (next-first bits a to 1 (lit< tt) (f .high)) in
@@ -106,12 +111,26 @@ module _ (bits : List ℕ) where
         gaps = first-gap p to a e f s ∙ ap (λ (x : ℕ). withGap a (e - a) (gapsFrom bits x (to - x) 0)) there;
       }
 
+-- ---- a gap is compared with the best before it
+
+module _ (n : ℕ) (x best : Gap) where
+  pub better-took : n ≤ x .len → x .len < best .len → better n x best ≡ x
+  unfolding better
+  better-took a b = ap₂ (λ (s t : Bool). cond (s && t) x best) (le-leb n (x .len) a) (lt-ltb (x .len) (best .len) b)
+
+  pub better-short : x .len < n → better n x best ≡ best
+  unfolding better
+  better-short a = ap (λ (s : Bool). cond (s && ltb (x .len) (best .len)) x best) (lt-leb n (x .len) a)
+
+  pub better-kept : n ≤ x .len → best .len ≤ x .len → better n x best ≡ best
+  unfolding better
+  better-kept a b = ap₂ (λ (s t : Bool). cond (s && t) x best) (le-leb n (x .len) a) (le-ltb (x .len) (best .len) b)
+
 -- a gap in front is looked at first; where it has no pages it holds no run
 shortest-with : (n a l : ℕ) (best : Gap) (others : List Gap) → 1 ≤ n
     → shortest n best (withGap a l others) ≡ shortest n (better n (gap a l) best) others
 unfolding shortest
-shortest-with n a zero best others h =
-    ap (λ (b : Bool). shortest n (cond (b && ltb 0 (best .len)) (gap a 0) best) others) (sym (lt-leb n 0 h))
+shortest-with n a zero best others h = ap (λ (b : Gap). shortest n b others) (sym (better-short n (gap a 0) best h))
 shortest-with n a (suc l) best others h = refl
 
 -- ---- the turns of the search in chunk k: the shortest of the best gap so far and the gaps from p on is that of all gaps of the chunk

@@ -41,7 +41,7 @@ abbrev pub noGap : Gap
 noGap = gap 0 512
 
 -- x, where it holds n pages and is shorter than the best gap before it
-abbrev pub better : ℕ → Gap → Gap → Gap
+unfoldable pub better : ℕ → Gap → Gap → Gap
 better n x best = cond (leb n (x .len) && ltb (x .len) (best .len)) x best
 
 -- the shortest of `best` and those of the gaps that hold n pages, the first of them on a tie

@@ -1,20 +1,44 @@
 -- What the word and the bit of a page of sound records tell. Assumes nothing.
-use mathlib.Core.Path.{_≡_, refl, sym, ap, _∙_}
+use mathlib.Core.Path.{_≡_, refl, sym, ap, _∙_, subst}
 use mathlib.Core.Logic.{_≢_, _⊎_, inl, inr, by-cases}
 use mathlib.Core.Bool.{Bool, true, false, false≢true}
-use Prim.Native.Nat.{ℕ, _-_, _*_, _%_, _≤_, _<_}
+use Prim.Native.Nat.{ℕ, suc, _+_, _-_, _*_, _%_, _≤_, _<_}
 use native.Mathlib.Decide.{ℕ-discrete, decLt}
 use native.Mathlib.Omega.{arith}
 use lib.ListN.{getD}
 use borrow.Author.Tests.{eq-eqb, ne-eqb}
 use Rattle.bitrow.specs.Row.{isSet}
-use Rattle.records.specs.Kinds.{edge, free, damaged, large, class, inner, kindOf}
+use Rattle.records.specs.Kinds.{Kind, edge, free, damaged, large, class, inner, kindOf}
 use Rattle.records.specs.Pool.{Pool, isEdge, kindAt}
 use Rattle.records.specs.Sound.{sound}
-use Rattle.records.proofs.Flags.{cond-eq, cond-ne}
+use Rattle.records.proofs.Flags.{cond-eq, cond-ne, eq-cases, lt-cases, le-cases}
 use Rattle.records.proofs.KindLaws.{kind-zero, kind-class, kind-large, kind-no-class, kind-no-large, kind-no-low}
 use mathlib.Core.List.{[]}
 use Rattle.records.proofs.WalkLaws.{sound-walks, walk-right}
+
+-- ---- what a page's kind tells of its word
+
+abbrev pub WordIs : ℕ → Kind → Type 0
+WordIs w edge = w ≡ 0x40000001
+WordIs w free = w ≡ 0
+WordIs w damaged = Unit {0}
+WordIs w (large k) = w ≡ 0x40000000 + suc k
+WordIs w (class b) = w ≡ 0x80000000 + b
+WordIs w (inner x) = w ≡ x
+
+kind-word : (v t : Bool) (w : ℕ) → WordIs w (kindOf v t w)
+kind-word true false w = tt
+kind-word true true w = eq-cases (WordIs w) w 0x40000001 (λ a. a) (λ a. tt)
+kind-word false false w = eq-cases (WordIs w) w 0 (λ a. a) (λ a. tt)
+kind-word false true w =
+    le-cases (WordIs w) 0xC0000000 w (λ a. refl)
+    (λ a. le-cases (WordIs w) 0x80000000 w (λ b. lt-cases (WordIs w) w 0x8000001E (λ d. omega arith) (λ d. tt))
+    (λ b. le-cases (WordIs w) 0x40000001 w (λ d. lt-cases (WordIs w) w 0x40000200 (λ e. omega arith) (λ e. tt))
+    (λ d. eq-cases (WordIs w) w 0 (λ e. refl) (λ e. tt))))
+
+pub page-word : (p : Pool) (g : ℕ) {k : Kind} → kindAt p g ≡ k → WordIs (getD (p .words) g 0) k
+unfolding kindAt
+page-word p g e = subst (WordIs (getD (p .words) g 0)) e (kind-word (isEdge g) (isSet (p .bits) g) (getD (p .words) g 0))
 
 -- ---- a word that is not damaged
 

@@ -23,7 +23,9 @@ use Rattle.records.proofs.WalkLaws.{sound-walks}
 use Rattle.records.proofs.RunLaws.{walk-run}
 use Rattle.records.proofs.AdmitLaws.{refused, served}
 use Rattle.classes.proofs.ClassLaws.{any-row}
+use Rattle.records.proofs.WordLaws.{page-word}
 use Rattle.blocks.specs.Stores.{putRun, putSlot}
+use Rattle.blocks.proofs.StoreLaws.{first-stored}
 use Rattle.release.specs.declared.Spot.{Spot}
 use Rattle.release.specs.declared.Sized.{Sized}
 use Rattle.release.specs.declared.Spot.the-variants.{Nowhere, Run, Slot}
@@ -97,28 +99,6 @@ there c p q =
 
 -- ---- the pages of a large run
 
--- the word of a page inside a run is the one that its kind holds
-abbrev Holds : ℕ → Kind → Type 0
-Holds w edge = Unit {0}
-Holds w free = Unit {0}
-Holds w damaged = Unit {0}
-Holds w (large k) = Unit {0}
-Holds w (class b) = Unit {0}
-Holds w (inner x) = w ≡ x
-
-kind-holds : (v t : Bool) (w : ℕ) → Holds w (kindOf v t w)
-kind-holds true false w = tt
-kind-holds true true w = eq-cases (Holds w) w 0x40000001 (λ a. tt) (λ a. tt)
-kind-holds false false w = eq-cases (Holds w) w 0 (λ a. tt) (λ a. tt)
-kind-holds false true w =
-    le-cases (Holds w) 0xC0000000 w (λ a. refl)
-    (λ a. le-cases (Holds w) 0x80000000 w (λ b. lt-cases (Holds w) w 0x8000001E (λ d. tt) (λ d. tt))
-    (λ b. le-cases (Holds w) 0x40000001 w (λ d. lt-cases (Holds w) w 0x40000200 (λ e. tt) (λ e. tt)) (λ d. eq-cases (Holds w) w 0 (λ e. refl) (λ e. tt))))
-
-inner-word : (p : Pool) (g x : ℕ) → kindAt p g ≡ inner x → getD (p .words) g 0 ≡ x
-unfolding kindAt
-inner-word p g x e = subst (Holds (getD (p .words) g 0)) e (kind-holds (isEdge g) (isSet (p .bits) g) (getD (p .words) g 0))
-
 module _ (c : ℕ) (p : Pool) (s : sound c p ≡ true) {q g n : ℕ} (r : RunAt c p q g n) where
   pub large-ends : g + n ≤ 512 * c
   large-ends =
@@ -132,19 +112,11 @@ module _ (c : ℕ) (p : Pool) (s : sound c p ≡ true) {q g n : ℕ} (r : RunAt 
       let e : spanOf (kindAt p g) ≡ suc (n - 1) = ap spanOf (r .kind) in
       let w = walk-run (kindAt p) (512 * c) g (sound-walks c p s .walks) (r .inside) (omega arith) in
       let z : zeros (n - 1) ≡ w .due = Option·some-injective _ _ (ap (step []) (sym (r .kind)) ∙ w .begins) in
-      inner-word p i 0 (w .rest i x (omega arith) ∙ ap (λ (l : List ℕ). inner (getD l (i - suc g) 0)) (sym z) ∙ ap inner (getD-zeros (n - 1) (i - suc g)))
-
--- zeros stored over zeros
-zeros-kept : (n : ℕ) (l : List ℕ) (i : ℕ) → ((j : ℕ) → i ≤ j → j < i + n → getD l j 0 ≡ 0) → sets l i (zeros n) ≡ l
-zeros-kept zero l i h = refl
-zeros-kept (suc n) l i h =
-    let e : set l i 0 ≡ l = ap (set l i) (sym (h i (omega arith) (omega arith))) ∙ set-getD l i 0 in
-    ap (λ (x : List ℕ). sets x (suc i) (zeros n)) e ∙ zeros-kept n l (suc i) (λ j a b. h j (omega arith) (omega arith))
+      page-word p i (w .rest i x (omega arith) ∙ ap (λ (l : List ℕ). inner (getD l (i - suc g) 0)) (sym z) ∙ ap inner (getD-zeros (n - 1) (i - suc g)))
 
 pub first-cleared : (n : ℕ) (l : List ℕ) (g : ℕ) → 1 ≤ n → ((i : ℕ) → g < i → i < g + n → getD l i 0 ≡ 0) → set l g 0 ≡ sets l g (zeros n)
 first-cleared zero l g a h = absurd (omega arith)
-first-cleared (suc n) l g a h =
-    sym (zeros-kept n (set l g 0) (suc g) (λ j x y. getD-set-other l g j 0 0 (omega arith) ∙ h j (omega arith) (omega arith)))
+first-cleared (suc n) l g a h = first-stored 0 n l g h
 
 -- ---- the work of a release
 

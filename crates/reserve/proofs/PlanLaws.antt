@@ -19,7 +19,7 @@ use Rattle.records.specs.Sound.{sound}
 use Rattle.records.specs.Calls.{admitOf}
 use Rattle.records.proofs.Flags.{flag-eq, and-left, and-right, cond-lt, cond-nlt, cond-le, cond-nle, eq-cases, lt-cases, le-cases}
 use Rattle.records.proofs.RunLaws.{class-at-low}
-use Rattle.records.proofs.WordLaws.{page-class, page-free}
+use Rattle.records.proofs.WordLaws.{page-word, page-class, page-free}
 use Rattle.records.proofs.AdmitLaws.{Admitted, admitted}
 use Rattle.gaps.specs.declared.Found.{Found}
 use Rattle.gaps.specs.declared.Found.the-variants.{At, Nothing}
@@ -37,35 +37,13 @@ unfolding freeSlot
 free-first bits b g =
     let e : 512 * g + slots b - 512 * g ≡ slots b = omega arith in
     let f : First bits (512 * g) (512 * g + slots b) 0 (nextBit 0 bits (512 * g) (slots b)) =
-          subst (λ (n : ℕ). First bits (512 * g) (512 * g + slots b) 0 (nextBit 0 bits (512 * g) n)) e
-          (next-first bits (512 * g) (512 * g + slots b) 0 (omega arith) (omega arith)) in
+    subst (λ (n : ℕ). First bits (512 * g) (512 * g + slots b) 0 (nextBit 0 bits (512 * g) n)) e
+    (next-first bits (512 * g) (512 * g + slots b) 0 (omega arith) (omega arith)) in
     let l = f .low in
     let r : nextBit 0 bits (512 * g) (slots b) ≡ 512 * g + (nextBit 0 bits (512 * g) (slots b) - 512 * g) = omega arith in
     subst (First bits (512 * g) (512 * g + slots b) 0) r f
 
 -- ---- a run of the class, by its first word
-
-abbrev FirstWord : ℕ → Kind → Type 0
-FirstWord w edge = Unit {0}
-FirstWord w free = Unit {0}
-FirstWord w damaged = Unit {0}
-FirstWord w (large k) = Unit {0}
-FirstWord w (class b) = w ≡ 0x80000000 + b
-FirstWord w (inner x) = Unit {0}
-
-kind-first : (v t : Bool) (w : ℕ) → FirstWord w (kindOf v t w)
-kind-first true false w = tt
-kind-first true true w = eq-cases (FirstWord w) w 0x40000001 (λ a. tt) (λ a. tt)
-kind-first false false w = eq-cases (FirstWord w) w 0 (λ a. tt) (λ a. tt)
-kind-first false true w =
-    le-cases (FirstWord w) 0xC0000000 w (λ a. tt)
-    (λ a. le-cases (FirstWord w) 0x80000000 w (λ b. lt-cases (FirstWord w) w 0x8000001E (λ d. omega arith) (λ d. tt))
-      (λ b. le-cases (FirstWord w) 0x40000001 w (λ d. lt-cases (FirstWord w) w 0x40000200 (λ e. tt) (λ e. tt))
-        (λ d. eq-cases (FirstWord w) w 0 (λ e. tt) (λ e. tt))))
-
-class-word : (p : Pool) (g b : ℕ) → kindAt p g ≡ class b → getD (p .words) g 0 ≡ 0x80000000 + b
-unfolding kindAt
-class-word p g b e = subst (FirstWord (getD (p .words) g 0)) e (kind-first (isEdge g) (isSet (p .bits) g) (getD (p .words) g 0))
 
 -- a kind that is a run of class b
 run-of : (b : ℕ) (k : Kind) → isRunOf b k ≡ true → k ≡ class b
@@ -82,9 +60,9 @@ module _ (c : ℕ) (p : Pool) (s : sound c p ≡ true) (b : ℕ) (bl : b < 30) w
   word-run g l =
       flag-eq (eqb (getD (p .words) g 0) (0x80000000 + b)) (isRunOf b (kindAt p g))
       (λ e. let w = eqb-true (getD (p .words) g 0) (0x80000000 + b) e in
-        let (n, k) = page-class c p s g l (omega arith) (omega arith) in
-        ap (isRunOf b) k ∙ eq-eqb (getD (p .words) g 0 - 0x80000000) b (omega arith))
-      (λ e. eq-eqb (getD (p .words) g 0) (0x80000000 + b) (class-word p g b (run-of b (kindAt p g) e)))
+      let (n, k) = page-class c p s g l (omega arith) (omega arith) in
+      ap (isRunOf b) k ∙ eq-eqb (getD (p .words) g 0 - 0x80000000) b (omega arith))
+      (λ e. eq-eqb (getD (p .words) g 0) (0x80000000 + b) (page-word p g (run-of b (kindAt p g) e)))
 
   pub word-slot : (g : ℕ) → g < 512 * c → (t : Bool) {w f n : ℕ} → w ≡ getD (p .words) g 0 → f ≡ 0x80000000 + b → n ≡ slots b
       → t ≡ eqb w f && ltb (freeSlot (p .slots) b g) n → t ≡ hasSlot p b g
@@ -111,7 +89,7 @@ module _ {p : Pool} {b n g : ℕ} (h : Passed p b n g) where
       let r : n - g ≡ suc (n - (g + 1)) = omega arith in let q : g + 1 ≡ suc g = omega arith in
       record {
         says = ap (λ (x : ℕ). slotPage p b x (n - (g + 1))) q ∙ sym (page-step p b g (n - (g + 1)) false (sym e ∙ f))
-          ∙ ap (slotPage p b g) (sym r) ∙ h .says
+            ∙ ap (slotPage p b g) (sym r) ∙ h .says;
       }
 
   pub passed-at : g < n → {t : Bool} → t ≡ hasSlot p b g → t ≡ true → g ≡ slotPage p b 0 n
@@ -143,7 +121,7 @@ searched p b (suc n) g = go (hasSlot p b g) refl (searched p b n (suc g))
           low = omega arith;
           high = omega arith;
           here = λ h. s .here (omega arith);
-          before = λ i x y. by-cases (ℕ-discrete i g) (λ q. ap (hasSlot p b) q ∙ e) (λ q. s .before i (omega arith) (omega arith))
+          before = λ i x y. by-cases (ℕ-discrete i g) (λ q. ap (hasSlot p b) q ∙ e) (λ q. s .before i (omega arith) (omega arith));
         }
 
 pub has-free : (c : ℕ) (p : Pool) (b g : ℕ) → g < 512 * c → hasSlot p b g ≡ true → SlotFree c p g b (freeSlot (p .slots) b g)
@@ -155,7 +133,7 @@ has-free c p b g l e =
       inside = l;
       kind = k;
       slot = h;
-      clear = ap (λ (x : ℕ). eqb x 1) (free-first (p .slots) b g .here (omega arith)) ∙ ne-eqb 0 1 (omega arith)
+      clear = ap (λ (x : ℕ). eqb x 1) (free-first (p .slots) b g .here (omega arith)) ∙ ne-eqb 0 1 (omega arith);
     }
 
 -- ---- free pages
@@ -173,7 +151,7 @@ module _ (c : ℕ) (p : Pool) (s : sound c p ≡ true) where
         some = a;
         few = omega arith;
         inside = omega arith;
-        clear = λ i u v. page-free c p s i (omega arith) (bit-free p i (f .free i u v))
+        clear = λ i u v. page-free c p s i (omega arith) (bit-free p i (f .free i u v));
       }
 
   run-ok : (n : ℕ) → 1 ≤ n → PlanOk c p (planRun c (p .bits) n)

@@ -27,3 +27,10 @@ PlanOk c p (Refuse r) = Unit {0}
 PlanOk c p (InRun g b s) = SlotFree c p g b s
 PlanOk c p (NewRun g b) = (b < 30) × PagesFree c p g (pages b)
 PlanOk c p (NewLarge g n) = PagesFree c p g n
+
+-- the numbers of a plan are those of a pool
+abbrev pub PlanLow : Plan → Type 0
+PlanLow (Refuse r) = Unit {0}
+PlanLow (InRun g b s) = (g < 8192) × (b < 30) × (s < 512)
+PlanLow (NewRun g b) = (g < 8192) × (b < 30)
+PlanLow (NewLarge g n) = (g < 8192) × (n ≤ 511)

@@ -10,8 +10,8 @@ ghost use Rattle.classes.specs.Classes.{pages};
 ghost use Rattle.records.specs.Kinds.{class, large, slotsOf, wordsOf};
 ghost use Rattle.records.specs.Pool.{pool};
 ghost use Rattle.records.specs.Calls.{admitOf, leaves};
-ghost use Rattle.reserve.specs.Reserve.{freeSlot, slotPage, planSlot, planRun, plan, perform, answer, attempt, reserveOf};
-ghost use Rattle.reserve.specs.Plans.{PlanOk};
+ghost use Rattle.reserve.specs.Reserve.{freeSlot, slotPage, planSlot, planRun, plan, perform, slotGiven, answer, attempt, reserveOf};
+ghost use Rattle.reserve.specs.Plans.{PlanOk, PlanLow};
 
 // What a reserve will do: refuse with a number; take slot s of the run of class b at page g; start a run of class b at page g; start a
 // large run of n pages at page g.
@@ -137,4 +137,155 @@ pub fn plan_for(c: u64, bits: &[u64], words: &[u32], slots: &[u64], n: u64) -> P
     }
     let m = ((n + 4095) / 4096) as usize;
     plan_run(c, bits, m)
+}
+
+// The words of a new run of class b, of n pages, from page g on.
+fn class_words(words: &mut [u32], g: usize, b: usize, n: usize)
+    requires { ⌜ (g + n ≤ 8192) × (g + n ≤ length (now words)) × (b < 30) × (n ≡ pages b) ⌝ }
+    ensures { λ _. ⌜ now (words .exit) ≡ sets (now (words .entry)) g (wordsOf (class b)) ⌝ }
+{
+    words[g] = 0x80000000 + (b as u32);
+    let mut k = 1;
+    while k < n {
+        words[g + k] = 0xC0000000 + 65536 * (k as u32) + (b as u32);
+        k += 1;
+    }
+}
+
+// A new run of class b at page g, with its slot 0 taken.
+fn new_run(bits: &mut [u64], words: &mut [u32], slots: &mut [u64], g: usize, b: usize)
+    requires { ⌜ (b < 30) × (g + pages b ≤ 8192) × (g + pages b ≤ 64 * length (now bits)) × (g + pages b ≤ length (now words)) × (512 * g < 64 * length (now slots)) ⌝ }
+    ensures { λ _. ⌜ pool (now (bits .exit)) (now (words .exit)) (now (slots .exit)) ≡ perform (pool (now (bits .entry)) (now (words .entry)) (now (slots .entry))) (Plan.NewRun g b) ⌝ }
+{
+    let row = classes::class_row(b);
+    let n = wide(row.pages);
+    bitrow::put_bits(bits, g, n, true);
+    class_words(words, g, b, n);
+    bitrow::put_bit(slots, 512 * g, true);
+}
+
+// A large run of n pages at page g. The pages were free, so only the first has a word to write.
+fn new_large(bits: &mut [u64], words: &mut [u32], g: usize, n: usize)
+    requires { ⌜ (1 ≤ n) × (n ≤ 511) × (g + n ≤ 8192) × (g + n ≤ 64 * length (now bits)) × (g + n ≤ length (now words)) × ((i : ℕ) → g < i → i < g + n → getD (now words) i 0 ≡ 0) ⌝ }
+    ensures { λ _. ⌜ (now (bits .exit) ≡ putBits 1 (now (bits .entry)) g n) × (now (words .exit) ≡ sets (now (words .entry)) g (wordsOf (large (n - 1)))) ⌝ }
+{
+    bitrow::put_bits(bits, g, n, true);
+    words[g] = 0x40000000 + (n as u32);
+}
+
+// The stores of a plan.
+fn perform_plan(c: u64, bits: &mut [u64], words: &mut [u32], slots: &mut [u64], x: Plan)
+    requires { ⌜ (admitOf c (pool (now bits) (now words) (now slots)) ≡ 0) × (PlanOk c (pool (now bits) (now words) (now slots)) x) ⌝ }
+    ensures { λ _. ⌜ pool (now (bits .exit)) (now (words .exit)) (now (slots .exit)) ≡ perform (pool (now (bits .entry)) (now (words .entry)) (now (slots .entry))) x ⌝ }
+{
+    match x {
+        Plan::Refuse(r) => {
+            return;
+        }
+        Plan::InRun(g, b, s) => {
+            bitrow::put_bit(slots, 512 * g + s, true);
+            return;
+        }
+        Plan::NewRun(g, b) => {
+            new_run(bits, words, slots, g, b);
+            return;
+        }
+        Plan::NewLarge(g, n) => {
+            new_large(bits, words, g, n);
+            return;
+        }
+    }
+}
+
+fn wide64(x: usize) -> u64
+    ensures { λ r. ⌜ r ≡ x ⌝ }
+{
+    x as u64
+}
+
+// Slot s of the run of class b at page g.
+fn slot_given(g: usize, b: usize, s: usize) -> Reserved
+    requires { ⌜ (g < 8192) × (b < 30) × (s < 512) ⌝ }
+    ensures { λ r. ⌜ r ≡ slotGiven g b s ⌝ }
+{
+    let row = classes::class_row(b);
+    let size = wide64(wide(row.size));
+    let first = wide64(g);
+    let number = wide64(s);
+    let slot = SlotAt {
+        class: wide64(b),
+        first: first,
+        number: number,
+    };
+    Reserved {
+        refusal: 0,
+        place: 4096 * first + number * size,
+        size: size,
+        kind: Given::Slot(slot),
+    }
+}
+
+// What a plan answers.
+fn answer_of(x: Plan) -> Reserved
+    requires { ⌜ PlanLow x ⌝ }
+    ensures { λ r. ⌜ r ≡ answer x ⌝ }
+{
+    match x {
+        Plan::Refuse(r) => {
+            return Reserved {
+                refusal: r,
+                place: 0,
+                size: 0,
+                kind: Given::None,
+            };
+        }
+        Plan::InRun(g, b, s) => {
+            return slot_given(g, b, s);
+        }
+        Plan::NewRun(g, b) => {
+            return slot_given(g, b, 0);
+        }
+        Plan::NewLarge(g, n) => {
+            let pages = wide64(n);
+            let first = wide64(g);
+            return Reserved {
+                refusal: 0,
+                place: 4096 * first,
+                size: 4096 * pages,
+                kind: Given::Run(pages),
+            };
+        }
+    }
+}
+
+// The work of a reserve, on records that are sound.
+pub fn reserve_sound(
+    c: u64,
+    bits: &mut [u64],
+    words: &mut [u32],
+    slots: &mut [u64],
+    n: u64,
+) -> Reserved
+    requires { ⌜ admitOf c (pool (now bits) (now words) (now slots)) ≡ 0 ⌝ }
+    ensures { λ r. ⌜ leaves r (pool (now (bits .exit)) (now (words .exit)) (now (slots .exit))) ≡ attempt c (pool (now (bits .entry)) (now (words .entry)) (now (slots .entry))) n ⌝ }
+{
+    let x = plan_for(c, bits, words, slots, n);
+    perform_plan(c, bits, words, slots, x);
+    answer_of(x)
+}
+
+// Document 01's reserve of n bytes: what was given, or refusal 1, 2, 3 or 4 and nothing is changed.
+pub fn reserve(c: u64, bits: &mut [u64], words: &mut [u32], slots: &mut [u64], n: u64) -> Reserved
+    ensures { λ r. ⌜ leaves r (pool (now (bits .exit)) (now (words .exit)) (now (slots .exit))) ≡ reserveOf c (pool (now (bits .entry)) (now (words .entry)) (now (slots .entry))) n ⌝ }
+{
+    let a = admit::admit(c, bits, words, slots);
+    if a != 0 {
+        return Reserved {
+            refusal: a,
+            place: 0,
+            size: 0,
+            kind: Given::None,
+        };
+    }
+    reserve_sound(c, bits, words, slots, n)
 }

@@ -1,0 +1,78 @@
+-- The answer of a reserve, and the call behind the check, as the code makes them. Assumes nothing.
+use mathlib.Core.Path.{_≡_, refl, sym, ap, ap₂, _∙_, subst}
+use mathlib.Core.Logic.{_≢_}
+use Prim.Native.Nat.{ℕ, _+_, _-_, _*_, _≤_, _<_}
+use native.Mathlib.Nat.{mul-le-mul}
+use native.Mathlib.Omega.{arith}
+use Rattle.classes.specs.declared.Row.{Row}
+use Rattle.classes.specs.Classes.{rowAt, size}
+use Rattle.classes.proofs.ClassLaws.{any-row, row-facts}
+use Rattle.records.specs.Pool.{Pool}
+use Rattle.records.specs.Calls.{admitOf, Left, leaves}
+use Rattle.records.proofs.RunLaws.{class-at-low}
+use Rattle.records.proofs.AdmitLaws.{Admitted, admitted, refused, served}
+use Rattle.reserve.specs.declared.Plan.{Plan}
+use Rattle.reserve.specs.declared.Plan.the-variants.{Refuse, InRun, NewRun, NewLarge}
+use Rattle.reserve.specs.declared.Given.the-variants.{Slot, Run}
+use Rattle.reserve.specs.declared.Reserved.{Reserved}
+use Rattle.reserve.specs.Reserve.{plan, perform, slotGiven, answer, attempt, reserveOf}
+use Rattle.reserve.specs.Reserve as reserve
+use Rattle.reserve.specs.Plans.{PlanOk, PlanLow}
+use Rattle.reserve.proofs.PlanLaws.{plan-ok}
+use Rattle.reserve.proofs.StoreForms.{slot-few}
+
+-- ---- a slot
+
+-- the class's size, as it was read and widened
+pub size-read : (b : ℕ) {x y : ℕ} {r : Row} → r ≡ rowAt b → x ≡ r .size → y ≡ x → y ≡ size b
+size-read b e f g = g ∙ f ∙ ap (λ (r : Row). r .size) e
+
+pub slot-room : {b s n z : ℕ} → b < 30 → s < 512 → n ≡ s → z ≡ size b → n * z ≤ 1569792
+slot-room {b} {s} {n} {z} l h e f =
+    let r = row-facts b l in let k = r .size-most in
+    let m = mul-le-mul {n₁ = n} {m₁ = z} {n₂ = 511} {m₂ = 3072} (omega arith) (omega arith) in omega arith
+
+pub slot-is : {g b s k f n z : ℕ} → k ≡ b → f ≡ g → n ≡ s → z ≡ size b
+    → record { refusal = 0; place = 4096 * f + n * z; size = z; kind = Slot (record { class = k; first = f; number = n }) } ≡ slotGiven g b s
+slot-is e f g h = cc
+
+pub large-is : {g n f m : ℕ} → f ≡ g → m ≡ n → record { refusal = 0; place = 4096 * f; size = 4096 * m; kind = Run m } ≡ answer (NewLarge g n)
+large-is e f = cc
+
+-- ---- the plan, as it was matched
+
+pub answer-as : {x y : Plan} {r : Reserved} → x ≡ y → r ≡ answer y → r ≡ answer x
+answer-as e f = f ∙ ap answer (sym e)
+
+pub low-as : {x y : Plan} → x ≡ y → PlanLow x → PlanLow y
+low-as e h = subst PlanLow e h
+
+-- what a plan relies on keeps its numbers low
+pub ok-low : (c : ℕ) (p : Pool) → c ≤ 16 → (x : Plan) → PlanOk c p x → PlanLow x
+ok-low c p l (Refuse r) h = tt
+ok-low c p l (InRun g b s) h = let i = h .inside in (omega arith, class-at-low p g b (h .kind), slot-few h)
+ok-low c p l (NewRun g b) (d, h) = let i = h .inside in let k = h .some in (omega arith, d)
+ok-low c p l (NewLarge g n) h = let i = h .inside in let k = h .some in (omega arith, h .few)
+
+-- ---- the work, and the call
+
+module _ (c : ℕ) (p : Pool) (n : ℕ) (x : Plan) (e : x ≡ plan c p n) where
+  pub plan-good : admitOf c p ≡ 0 → PlanOk c p x
+  plan-good ok = subst (PlanOk c p) (sym e) (plan-ok c p (admitted c p ok .whole) n)
+
+  pub plan-low : admitOf c p ≡ 0 → PlanLow x
+  plan-low ok = ok-low c p (admitted c p ok .shape .few) x (plan-good ok)
+
+  pub worked : (r : Reserved) (q : Pool) → r ≡ answer x → q ≡ perform p x → leaves r q ≡ attempt c p n
+  unfolding attempt
+  worked r q f g =
+      ap₂ (λ (a : Reserved) (b : Pool). leaves a b) f g ∙ ap (λ (y : Plan). leaves (answer y) (perform p y)) e
+
+module _ (c : ℕ) (p : Pool) (n a : ℕ) (e : a ≡ admitOf c p) where
+  pub reserve-refused : a ≢ 0 → leaves (reserve.refused a) p ≡ reserveOf c p n
+  unfolding reserveOf
+  reserve-refused z = refused (admitOf c p) a (λ r. leaves (reserve.refused r) p) (attempt c p n) e z
+
+  pub reserve-served : a ≡ 0 → {x : Left Reserved} → x ≡ attempt c p n → x ≡ reserveOf c p n
+  unfolding reserveOf
+  reserve-served z f = f ∙ served (admitOf c p) a (λ r. leaves (reserve.refused r) p) (attempt c p n) e z

@@ -1,0 +1,53 @@
+-- `reserve::new_run` meets its contract. Assumes nothing.
+use mathlib.Core.Path.{_∙_, ap}
+use native.Mathlib.Omega.{arith}
+use Rattle.classes.specs.declared.Row.{Row}
+use Rattle.reserve.proofs.StoreForms.{new-run-is}
+use borrow.Author.Needs.{needs}
+use Rattle.reserve.proofs.new_run.Statement.{statement}
+use Rattle.reserve.proofs.new_run.Tie as tie
+
+class-row-requires : tie.Need-class-row-requires
+class-row-requires c κs = search needs
+
+wide-requires : tie.Need-wide-requires
+wide-requires c κs = search needs
+
+put-bits-requires : tie.Need-put-bits-requires
+put-bits-requires c κs = let e = (c .before .wide .ensures ∙ ap (λ (r : Row). r .pages) (c .before .before .class-row .ensures)) in (omega arith, omega arith)
+
+class-words-requires : tie.Need-class-words-requires
+class-words-requires c κs = let e = (c .before .before .before .before .before .wide .ensures ∙ ap (λ (r : Row). r .pages) (c .before .before .before .before .before .before .class-row .ensures)) in (omega arith, omega arith, c .before .before .before .before .before .before .before .before .before .before .pre .0, e)
+
+mul-put-bit : tie.Need-mul-put-bit
+mul-put-bit c = search needs
+
+put-bit-requires : tie.Need-put-bit-requires
+put-bit-requires c κs = search needs
+
+same-length : tie.Need-same-length
+same-length c = search needs
+
+same-length-2 : tie.Need-same-length-2
+same-length-2 c = search needs
+
+same-length-3 : tie.Need-same-length-3
+same-length-3 c = search needs
+
+returns : tie.Need-returns
+returns c = new-run-is _ _ _ _ (c .before .before .before .before .before .before .before .before .before .before .before .before .before .before .before .before .before .pre .0) (c .before .before .before .before .before .before .before .before .before .before .before .before .wide .ensures ∙ ap (λ (r : Row). r .pages) (c .before .before .before .before .before .before .before .before .before .before .before .before .before .class-row .ensures)) _ _ _ (c .before .before .before .before .before .before .before .before .before .before .put-bits .ensures) (c .before .before .before .before .before .before .class-words .ensures) (c .before .before .put-bit .ensures)
+
+pub new-run-spec : {M : Type 1} → statement M
+new-run-spec =
+    tie.close
+    (tie.spec
+    class-row-requires
+    wide-requires
+    put-bits-requires
+    class-words-requires
+    mul-put-bit
+    put-bit-requires
+    same-length
+    same-length-2
+    same-length-3
+    returns)

@@ -1,0 +1,38 @@
+-- `reserve::reserve_sound` meets its contract. Assumes nothing.
+use Rattle.reserve.proofs.AnswerForms.{plan-good, plan-low, worked}
+use borrow.Author.Needs.{needs}
+use Rattle.reserve.proofs.reserve_sound.Statement.{statement}
+use Rattle.reserve.proofs.reserve_sound.Tie as tie
+
+plan-for-requires : tie.Need-plan-for-requires
+plan-for-requires c κs = search needs
+
+perform-plan-requires : tie.Need-perform-plan-requires
+perform-plan-requires c κs = (c .before .before .before .before .before .before .before .before .before .before .pre, plan-good _ _ _ _ (c .before .before .before .plan-for .ensures) (c .before .before .before .before .before .before .before .before .before .before .pre))
+
+answer-of-requires : tie.Need-answer-of-requires
+answer-of-requires c κs = plan-low _ _ _ _ (c .before .before .before .before .before .before .before .before .before .before .plan-for .ensures) (c .before .before .before .before .before .before .before .before .before .before .before .before .before .before .before .before .before .pre)
+
+same-length : tie.Need-same-length
+same-length c = search needs
+
+same-length-2 : tie.Need-same-length-2
+same-length-2 c = search needs
+
+same-length-3 : tie.Need-same-length-3
+same-length-3 c = search needs
+
+returns : tie.Need-returns
+returns c = worked _ _ _ _ (c .before .before .before .before .before .before .before .before .before .before .before .plan-for .ensures) _ _ (c .answer-of .ensures) (c .before .before .before .before .before .before .before .perform-plan .ensures)
+
+pub reserve-sound-spec : {M : Type 1} → statement M
+reserve-sound-spec =
+    tie.close
+    (tie.spec
+    plan-for-requires
+    perform-plan-requires
+    answer-of-requires
+    same-length
+    same-length-2
+    same-length-3
+    returns)
