@@ -49,7 +49,7 @@ pub record SlotAt (c : ℕ) (p : Pool) (q g b s : ℕ) : Type 0 where
   pub place : q ≡ 4096 * g + s * size b
 
 abbrev pub There : ℕ → Pool → ℕ → Spot → Type 0
-There c p q (Nowhere r) = Unit {0}
+There c p q (Nowhere r) = 1 ≤ r
 There c p q (Run g n) = RunAt c p q g n
 There c p q (Slot g b s) = SlotAt c p q g b s
 
@@ -61,24 +61,24 @@ module _ (c : ℕ) (p : Pool) (q g : ℕ) (l : g < 512 * c) (low : 4096 * g ≤ 
       (λ z. lt-cases (There c p q) ((q - 4096 * g) / size b) (slots b)
       (λ h. go (isSet (p .slots) (512 * g + (q - 4096 * g) / size b)) refl h
       (let r = div-add-mod' (q - 4096 * g) (size b) in omega arith))
-      (λ h. tt))
-      (λ z. tt)
+      (λ h. omega arith))
+      (λ z. omega arith)
     where
       go : (v : Bool) → isSet (p .slots) (512 * g + (q - 4096 * g) / size b) ≡ v → (q - 4096 * g) / size b < slots b
           → q ≡ 4096 * g + (q - 4096 * g) / size b * size b
           → There c p q (cond v (Slot g b ((q - 4096 * g) / size b)) (Nowhere 6))
       go true f h r = record { inside = l; kind = e; slot = h; taken = f; place = r }
-      go false f h r = tt
+      go false f h r = omega arith
 
   spot-there : (k : Kind) → kindAt p g ≡ k → There c p q (spotIn p g (q - 4096 * g) k)
-  spot-there edge e = tt
-  spot-there free e = tt
-  spot-there damaged e = tt
+  spot-there edge e = omega arith
+  spot-there free e = omega arith
+  spot-there damaged e = omega arith
   spot-there (large k) e =
       eq-cases (There c p q) (q - 4096 * g) 0
-      (λ z. let r : suc k - 1 ≡ k = omega arith in record { inside = l; some = omega arith; kind = e ∙ ap large (sym r); place = omega arith }) (λ z. tt)
+      (λ z. let r : suc k - 1 ≡ k = omega arith in record { inside = l; some = omega arith; kind = e ∙ ap large (sym r); place = omega arith }) (λ z. omega arith)
   spot-there (class b) e = slot-there b e
-  spot-there (inner w) e = tt
+  spot-there (inner w) e = omega arith
 
 first-le : (p : Pool) (g : ℕ) → firstPage p g ≤ g
 unfolding firstPage
@@ -95,7 +95,7 @@ there c p q =
     lt-cases (There c p q) (q / 4096) (512 * c)
     (λ h. let f = first-le p (q / 4096) in
     spot-there c p q (firstPage p (q / 4096)) (omega arith) (omega arith) (kindAt p (firstPage p (q / 4096))) refl)
-    (λ h. tt)
+    (λ h. omega arith)
 
 -- ---- the pages of a large run
 

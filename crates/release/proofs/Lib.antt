@@ -1,2 +1,3 @@
 pub mod SpotLaws
 pub mod GiveLaws
+pub mod MeanLaws

@@ -7,6 +7,7 @@ ghost use Rattle.bitrow.specs.Row.{putBits};
 ghost use Rattle.records.specs.Kinds.{zeros};
 ghost use Rattle.records.specs.Pool.{pool};
 ghost use Rattle.records.specs.Calls.{admitOf, leaves};
+ghost use Rattle.release.specs.Means.{ReleaseMeans};
 ghost use Rattle.release.specs.Release.{slotSpot, spot, give, releaseOf, sizeAt, sizeOf};
 
 // What starts at a place: nothing, with the refusal's number; a large run of so many pages; a taken slot of a run.
@@ -166,4 +167,11 @@ pub fn block_size(c: u64, bits: &[u64], words: &[u32], slots: &[u64], q: u64) ->
         };
     }
     size_sound(c, bits, words, slots, q)
+}
+
+// What a release and block size do to sound records.
+pub fn release_keeps() -> bool
+    ensures { λ r. ⌜ ReleaseMeans ⌝ }
+{
+    true
 }

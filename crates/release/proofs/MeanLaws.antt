@@ -1,0 +1,85 @@
+-- What release and block size do to sound records. Assumes nothing.
+use mathlib.Core.Path.{_≡_, refl, sym, ap, ap₂, _∙_, subst}
+use mathlib.Core.Bool.{Bool, true, false, cond}
+use Prim.Native.Nat.{ℕ, zero, suc, _+_, _-_, _*_, _/_, _%_, _≤_, _<_}
+use native.Mathlib.Nat.{mul-le-mul-right, mul-mod-left, mul-div-left}
+use native.Mathlib.Omega.{arith}
+use lib.Dec.{ltb}
+use Rattle.bitrow.specs.Row.{isSet}
+use Rattle.classes.specs.Classes.{size, slots, pages}
+use Rattle.classes.proofs.ClassLaws.{any-row}
+use Rattle.records.specs.Kinds.{Kind, large, class, zeros, behind}
+use Rattle.records.specs.Pool.{Pool, kindAt, slotAt}
+use Rattle.records.specs.Runs.{spanOf, InRun}
+use Rattle.records.proofs.Flags.{cond-eq, cond-lt}
+use Rattle.blocks.specs.Blocks.{Block, slotBlock, runBlock}
+use Rattle.blocks.specs.Stores.{Good, Loses, putRun}
+use Rattle.blocks.proofs.KeepLaws.{give-large, give-slot, run-whole}
+use Rattle.release.specs.declared.Spot.{Spot}
+use Rattle.release.specs.declared.Spot.the-variants.{Nowhere, Run, Slot}
+use Rattle.release.specs.Release.{firstPage, slotSpot, spotIn, spotFrom, spot, giveBack, released, give, sized, sizeAt}
+use Rattle.release.specs.Means.{ReleaseMeans}
+use Rattle.release.proofs.SpotLaws.{in-run}
+use Rattle.release.proofs.GiveLaws.{RunAt, SlotAt, There, there}
+
+-- ---- the block that goes
+
+abbrev Gone : ℕ → Pool → ℕ → Spot → Type 0
+Gone c p q x = (b : Block) × (b .place ≡ q) × (sizeAt x ≡ sized 0 (b .size)) × Loses c p (giveBack p x) b
+
+gone : (c : ℕ) (p : Pool) → Good c p → (q : ℕ) (x : Spot) → There c p q x → released x ≡ 0 → Gone c p q x
+gone c p h q (Nowhere r) t e = absurd (omega arith)
+gone c p h q (Run g n) t e =
+    let a = t .some in
+    let r : suc (n - 1) ≡ n = omega arith in
+    (runBlock g (n - 1), sym (t .place), ap (λ (m : ℕ). sized 0 (4096 * m)) (sym r),
+      subst (λ (m : ℕ). Loses c p (putRun 0 p g (zeros m)) (runBlock g (n - 1))) r (give-large c p h g (n - 1) (t .inside) (t .kind)))
+gone c p h q (Slot g b s) t e = (slotBlock g b s, sym (t .place), refl, give-slot c p h g b s (t .inside) (t .kind) (t .slot) (t .taken))
+
+-- a refusal changes nothing
+kept : (p : Pool) (x : Spot) (r : ℕ) → released x ≡ suc r → giveBack p x ≡ p
+kept p (Nowhere n) r e = refl
+kept p (Run g n) r e = absurd (omega arith)
+kept p (Slot g b s) r e = absurd (omega arith)
+
+-- ---- what starts at a place is found
+
+module _ (c : ℕ) (p : Pool) (h : Good c p) (g : ℕ) (l : g < 512 * c) where
+  -- the place q lies in the run that starts at page g
+  found-in : (q : ℕ) (k : Kind) → kindAt p g ≡ k → 4096 * g ≤ q → q < 4096 * (g + spanOf k) → spot c p q ≡ spotIn p g (q - 4096 * g) k
+  unfolding spot
+  found-in q k e a b =
+      let s : spanOf (kindAt p g) ≡ spanOf k = ap spanOf e in
+      let w = run-whole c p h g l in
+      let r : InRun p g (q / 4096) = record { low = omega arith; high = omega arith } in
+      cond-lt (q / 4096) (512 * c) _ _ (omega arith) ∙ ap (spotFrom p q) (in-run c p (h .whole) g (q / 4096) l r)
+      ∙ ap (spotIn p g (q - 4096 * g)) e
+
+  run-found : (k : ℕ) → kindAt p g ≡ large k → spot c p (4096 * g) ≡ Run g (suc k)
+  run-found k e =
+      found-in (4096 * g) (large k) e (omega arith) (omega arith) ∙ cond-eq (4096 * g - 4096 * g) 0 (Run g (suc k)) (Nowhere 5) (omega arith)
+
+  slot-found : (b s : ℕ) → kindAt p g ≡ class b → s < slots b → spot c p (4096 * g + s * size b) ≡ cond (slotAt p g s) (Slot g b s) (Nowhere 6)
+  unfolding slotSpot slotAt behind
+  slot-found b s e t =
+      let f = any-row b in
+      let z = f .size-some s t in
+      let m = mul-le-mul-right (size b) t in
+      let fit = f .fit in
+      let off : 4096 * g + s * size b - 4096 * g ≡ s * size b = omega arith in
+      let rest : s * size b % size b ≡ 0 = mul-mod-left s (size b) in
+      let number : s * size b / size b ≡ s = mul-div-left s z in
+      found-in (4096 * g + s * size b) (class b) e (omega arith) (omega arith) ∙ ap (slotSpot (p .slots) g b) off
+      ∙ cond-eq (s * size b % size b) 0 _ _ rest
+      ∙ ap (λ (n : ℕ). cond (ltb n (slots b)) (cond (isSet (p .slots) (512 * g + n)) (Slot g b n) (Nowhere 6)) (Nowhere 5)) number
+      ∙ cond-lt s (slots b) _ _ t
+
+pub release-means : ReleaseMeans
+unfolding give
+release-means =
+    record {
+      served = λ c p h q e. gone c p h q (spot c p q) (there c p q) e;
+      refused = λ c p q r e. kept p (spot c p q) r e;
+      run = λ c p h g k l e. run-found c p h g l k e;
+      slot = λ c p h g b s l e t. slot-found c p h g l b s e t
+    }
