@@ -2,9 +2,10 @@
 #
 #   make all        proves the library and puts build/liblensember.a together
 #   make test       the one test command: proofs, then the host tests
-#   make host-test  the host tests alone
-#   make bench      the record check against a plain OR over the same records;
-#                   GATE=1.5 makes it fail above that ratio
+#   make host-test  the host tests alone: damage, then series
+#   make bench      the record check, then the other calls, against a plain OR
+#                   over the same records; GATE=1.5 makes it fail when the check
+#                   is above that ratio
 #   make run        builds and runs examples/first.c
 #   make clean      removes build/
 #
@@ -42,15 +43,23 @@ build/bench/or.o: bench/or.c $(HEADERS) Makefile
 	@mkdir -p $(@D)
 	$(CC) $(CFLAGS) -O3 -falign-functions=64 -falign-loops=64 $(INCLUDES) -c $< -o $@
 
-TEST_OBJECTS = $(patsubst %,build/tests/%.o,damage cases lent model)
-BENCH_OBJECTS = build/bench/check.o build/bench/or.o build/tests/model.o
+SHARED = groups calls trials shapes cases lent model
+DAMAGE_OBJECTS = $(patsubst %,build/tests/%.o,damage $(SHARED))
+SERIES_OBJECTS = $(patsubst %,build/tests/%.o,series twin draws pool $(SHARED))
+BENCH_SHARED = build/bench/timing.o build/bench/or.o build/tests/model.o
 
 # Linked anew each time: LIB may have been another archive before.
-build/damage: $(TEST_OBJECTS) $(LIB)
-	$(CC) $(CFLAGS) $(TEST_OBJECTS) $(LIB) -o $@
+build/damage: $(DAMAGE_OBJECTS) $(LIB)
+	$(CC) $(CFLAGS) $(DAMAGE_OBJECTS) $(LIB) -o $@
 
-build/check: $(BENCH_OBJECTS) $(LIB)
-	$(CC) $(CFLAGS) $(BENCH_OBJECTS) $(LIB) -o $@
+build/series: $(SERIES_OBJECTS) $(LIB)
+	$(CC) $(CFLAGS) $(SERIES_OBJECTS) $(LIB) -o $@
+
+build/check: build/bench/check.o $(BENCH_SHARED) $(LIB)
+	$(CC) $(CFLAGS) build/bench/check.o $(BENCH_SHARED) $(LIB) -o $@
+
+build/calls: build/bench/calls.o $(BENCH_SHARED) $(LIB)
+	$(CC) $(CFLAGS) build/bench/calls.o $(BENCH_SHARED) $(LIB) -o $@
 
 build/first: build/examples/first.o $(LIB)
 	$(CC) $(CFLAGS) build/examples/first.o $(LIB) -o $@
@@ -58,11 +67,13 @@ build/first: build/examples/first.o $(LIB)
 test:
 	./test
 
-host-test: build/damage
+host-test: build/damage build/series
 	build/damage
+	build/series
 
-bench: build/check
+bench: build/check build/calls
 	build/check $(if $(GATE),--gate $(GATE))
+	build/calls
 
 run: build/first
 	build/first
@@ -70,4 +81,5 @@ run: build/first
 clean:
 	rm -rf build
 
-.PHONY: all test host-test bench run clean build/damage build/check build/first
+.PHONY: all test host-test bench run clean
+.PHONY: build/damage build/series build/check build/calls build/first

@@ -1,6 +1,7 @@
 /*
  * A first look at Lensember: lend the buffers of one chunk, make a fresh pool,
- * check it, damage one bit, and see that the check notices.
+ * reserve a row and a table, give the row back, check the records, damage one
+ * bit, and see that the check notices.
  */
 #include "lensember.h"
 
@@ -12,11 +13,27 @@ static uint64_t bits[LENSEMBER_CHUNK_BITS];
 static uint32_t words[LENSEMBER_CHUNK_WORDS];
 static uint64_t slots[LENSEMBER_CHUNK_SLOTS];
 
-static uint64_t check(void)
+/* Each call is lent all three buffers. */
+#define LENT bits, LENSEMBER_CHUNK_BITS, words, LENSEMBER_CHUNK_WORDS, slots, LENSEMBER_CHUNK_SLOTS
+
+/* A place counts from the pool's first byte, wherever the program keeps it. */
+static struct lensember_reserved reserve(const char *what, uint64_t size)
 {
-    return lensember_check(1, bits, LENSEMBER_CHUNK_BITS,
-                           words, LENSEMBER_CHUNK_WORDS,
-                           slots, LENSEMBER_CHUNK_SLOTS);
+    struct lensember_reserved block = lensember_reserve(1, LENT, size);
+
+    printf("%s of %" PRIu64 " bytes lies at %" PRIu64 ", size %" PRIu64 "\n",
+           what, size, block.place, block.size);
+    return block;
+}
+
+/* A row that is given back twice is noticed, and nothing else changes. */
+static int release_twice(uint64_t place)
+{
+    uint64_t once = lensember_release(1, LENT, place);
+    uint64_t again = lensember_release(1, LENT, place);
+
+    printf("release of the row answers %" PRIu64 ", once more %" PRIu64 "\n", once, again);
+    return once == LENSEMBER_OK && again == LENSEMBER_FREE_SLOT;
 }
 
 static const char *meaning(uint64_t answer)
@@ -33,27 +50,36 @@ static const char *meaning(uint64_t answer)
     }
 }
 
+static uint64_t check(void)
+{
+    uint64_t answer = lensember_check(1, LENT);
+
+    printf("check answers %" PRIu64 ": %s\n", answer, meaning(answer));
+    return answer;
+}
+
 int main(void)
 {
     uint64_t fresh, sound, damaged;
+    struct lensember_reserved row, table;
+    int released;
 
     printf("a pool of 1 chunk: %d bytes in %d pages\n",
            LENSEMBER_CHUNK_BYTES, LENSEMBER_CHUNK_PAGES);
 
-    fresh = lensember_fresh(1, bits, LENSEMBER_CHUNK_BITS,
-                            words, LENSEMBER_CHUNK_WORDS,
-                            slots, LENSEMBER_CHUNK_SLOTS);
+    fresh = lensember_fresh(1, LENT);
     printf("fresh answers %" PRIu64 "\n", fresh);
 
+    row = reserve("a row", 24);
+    table = reserve("a table", 5000);
+    released = release_twice(row.place);
     sound = check();
-    printf("check answers %" PRIu64 ": %s\n", sound, meaning(sound));
 
     bits[0] ^= UINT64_C(1) << 7;
     printf("page 7 now counts as taken, but no run holds it\n");
-
     damaged = check();
-    printf("check answers %" PRIu64 ": %s\n", damaged, meaning(damaged));
 
-    return fresh == LENSEMBER_OK && sound == LENSEMBER_OK
-            && damaged == LENSEMBER_DAMAGED ? 0 : 1;
+    return fresh == LENSEMBER_OK && row.kind == LENSEMBER_SLOT
+            && table.kind == LENSEMBER_RUN && released
+            && sound == LENSEMBER_OK && damaged == LENSEMBER_DAMAGED ? 0 : 1;
 }

@@ -45,9 +45,18 @@
 #define LENSEMBER_CHUNK_SLOTS 4096
 
 /* Answers. */
-#define LENSEMBER_OK 0      /* served */
-#define LENSEMBER_SHAPE 1   /* c not 1 to 16, or a buffer not of the exact length */
-#define LENSEMBER_DAMAGED 2 /* the records are not those of any pool */
+#define LENSEMBER_OK 0        /* served */
+#define LENSEMBER_SHAPE 1     /* c not 1 to 16, or a buffer not of the exact length */
+#define LENSEMBER_DAMAGED 2   /* the records are not those of any pool */
+#define LENSEMBER_TOO_BIG 3   /* more than 2,093,056 bytes are asked for */
+#define LENSEMBER_NO_ROOM 4   /* no free slot of the class and no long enough gap */
+#define LENSEMBER_NO_BLOCK 5  /* no block or slot starts at that place */
+#define LENSEMBER_FREE_SLOT 6 /* a slot starts there and is free */
+
+/* What a reserved block is. */
+#define LENSEMBER_NOTHING 0 /* refused: there is no block */
+#define LENSEMBER_SLOT 1    /* a slot of a size class, for 0 to 3,072 bytes */
+#define LENSEMBER_RUN 2     /* a run of pages, for 3,073 to 2,093,056 bytes */
 
 #ifdef __cplusplus
 extern "C" {
@@ -78,6 +87,96 @@ uint64_t lensember_fresh(uint64_t c,
                          uint64_t *bits, size_t nbits,
                          uint32_t *words, size_t nwords,
                          uint64_t *slots, size_t nslots);
+
+/*
+ * The answer to reserve. Members that do not apply are 0; on a refusal all but
+ * `refusal` are 0. Place 0 is never handed out.
+ *
+ * A place is a byte offset in the pool: chunk times 2,097,152, plus page times
+ * 4,096, plus slot times the slot size. The bytes from `place` on, `size` of
+ * them, are the caller's until the block is released. The library never reads
+ * or writes them; it does not even know where in memory the pool lies.
+ */
+struct lensember_reserved {
+    uint64_t refusal;      /* LENSEMBER_OK, or the number of the refusal */
+    uint64_t place;        /* where the block starts */
+    uint64_t size;         /* bytes given: those asked for, or a few more */
+    uint64_t kind;         /* LENSEMBER_NOTHING, LENSEMBER_SLOT or LENSEMBER_RUN */
+    uint64_t class_number; /* of a slot: its size class, 0 to 29 */
+    uint64_t first_page;   /* of a slot: its run's first page, 512 * chunk + page */
+    uint64_t slot;         /* of a slot: its number in the run, from 0 */
+    uint64_t pages;        /* of a page run: how many */
+};
+
+/*
+ * Reserves a block of at least `size` bytes; any number may be asked for.
+ *
+ * Up to 3,072 bytes are served by a slot of the smallest class that holds
+ * them: the free slot with the lowest place. Where the class has none, a new
+ * run of pages is cut into slots. More bytes are served by a run of pages of
+ * its own. Pages come from the first chunk that has a gap of that length; in
+ * it from the shortest such gap, the lower one on a tie.
+ *
+ *   LENSEMBER_OK       the block is taken, and the records say so
+ *   LENSEMBER_SHAPE    c is not 1 to 16, or a buffer is not of the exact length
+ *   LENSEMBER_DAMAGED  the lengths are right and the contents are damaged
+ *   LENSEMBER_TOO_BIG  size is above 2,093,056
+ *   LENSEMBER_NO_ROOM  up to 3,072 bytes: the class has no free slot, and no
+ *                      chunk has a long enough gap for a run of the class;
+ *                      more bytes: no chunk has a long enough gap
+ *
+ * The refusals are checked in this order. A refused call changes nothing.
+ */
+struct lensember_reserved lensember_reserve(uint64_t c,
+                                            uint64_t *bits, size_t nbits,
+                                            uint32_t *words, size_t nwords,
+                                            uint64_t *slots, size_t nslots,
+                                            uint64_t size);
+
+/*
+ * Gives the block that starts at `place` back; any number may be given. The
+ * pages of a page run are free for any request again. A slot is free for its
+ * class again; its run stays with the class, even when all its slots are free.
+ *
+ *   LENSEMBER_OK         the block is free, and the records say so
+ *   LENSEMBER_SHAPE      c is not 1 to 16, or a buffer is not of the exact length
+ *   LENSEMBER_DAMAGED    the lengths are right and the contents are damaged
+ *   LENSEMBER_NO_BLOCK   no block or slot starts there: the place is outside
+ *                        the pool, in the first page of a chunk, in a free page,
+ *                        inside a block or slot, or behind a run's last slot
+ *   LENSEMBER_FREE_SLOT  a slot starts there and is free
+ *
+ * The refusals are checked in this order. A refused call changes nothing.
+ */
+uint64_t lensember_release(uint64_t c,
+                           uint64_t *bits, size_t nbits,
+                           uint32_t *words, size_t nwords,
+                           uint64_t *slots, size_t nslots,
+                           uint64_t place);
+
+/* The answer to block size. On a refusal the size is 0. */
+struct lensember_sized {
+    uint64_t refusal; /* LENSEMBER_OK, or the number of the refusal */
+    uint64_t size;    /* bytes that the block was given */
+};
+
+/*
+ * How many bytes was the block that starts at `place` given? Any number may be
+ * given as a place. Reads only.
+ *
+ *   LENSEMBER_OK         a live block starts there, and this is its size
+ *   LENSEMBER_SHAPE      c is not 1 to 16, or a buffer is not of the exact length
+ *   LENSEMBER_DAMAGED    the lengths are right and the contents are damaged
+ *   LENSEMBER_NO_BLOCK   no block or slot starts there, as for release
+ *   LENSEMBER_FREE_SLOT  a slot starts there and is free
+ *
+ * The refusals are checked in this order.
+ */
+struct lensember_sized lensember_block_size(uint64_t c,
+                                            const uint64_t *bits, size_t nbits,
+                                            const uint32_t *words, size_t nwords,
+                                            const uint64_t *slots, size_t nslots,
+                                            uint64_t place);
 
 #ifdef __cplusplus
 }

@@ -5,108 +5,13 @@
  * model.c. One line is printed for each named group, then the count of groups.
  * Usage: damage [SEED]
  */
-#include "cases.h"
-#include "lensember.h"
-#include "lent.h"
-#include "model.h"
+#include "calls.h"
+#include "groups.h"
+#include "shapes.h"
+#include "trials.h"
 
 #include <inttypes.h>
-#include <stdarg.h>
-#include <stdio.h>
-#include <stdlib.h>
 #include <string.h>
-
-#define COUNT(array) (sizeof(array) / sizeof(array)[0])
-
-static struct rng rng;
-
-/* ---- Groups ------------------------------------------------------------- */
-
-static struct {
-    char name[80];
-    unsigned long trials, wrong;
-    char first_wrong[200];
-} group;
-
-static unsigned groups_passed, groups_failed;
-
-static void group_begin(const char *family, const char *name)
-{
-    memset(&group, 0, sizeof group);
-    snprintf(group.name, sizeof group.name, "%s/%s", family, name);
-}
-
-/* The first thing that is wrong is kept, the others are counted. */
-static void expect(bool right, const char *format, ...)
-{
-    va_list details;
-
-    if (right)
-        return;
-    if (group.wrong++ > 0)
-        return;
-    va_start(details, format);
-    vsnprintf(group.first_wrong, sizeof group.first_wrong, format, details);
-    va_end(details);
-}
-
-static void group_end(void)
-{
-    expect(group.trials > 0, "nothing was tried");
-    if (group.wrong == 0) {
-        printf("ok %s (%lu)\n", group.name, group.trials);
-        groups_passed++;
-    } else {
-        printf("FAIL %s: %lu wrong in %lu trials, first: %s\n", group.name,
-               group.wrong, group.trials, group.first_wrong);
-        groups_failed++;
-    }
-    fflush(stdout);
-}
-
-/* ---- The calls on whole pools ------------------------------------------- */
-
-static uint64_t library_check(const struct records *r)
-{
-    return lensember_check(r->c, r->bits, r->c * BIT_WORDS,
-                           r->words, r->c * PAGES,
-                           r->slots, r->c * SLOT_WORDS);
-}
-
-static uint64_t library_fresh(const struct records *r)
-{
-    return lensember_fresh(r->c, r->bits, r->c * BIT_WORDS,
-                           r->words, r->c * PAGES,
-                           r->slots, r->c * SLOT_WORDS);
-}
-
-/*
- * A sound pool, the copy that is damaged and lent, and what was lent as it was
- * before the call. Between two trials all three are equal.
- */
-struct trial_pools {
-    struct records sound, lent, before;
-};
-
-static struct trial_pools pools_new(size_t c)
-{
-    struct trial_pools pools = {lent_new(c), lent_new(c), lent_new(c)};
-    return pools;
-}
-
-static void pools_free(struct trial_pools *pools)
-{
-    lent_free(&pools->sound);
-    lent_free(&pools->lent);
-    lent_free(&pools->before);
-}
-
-static void pools_generate(struct trial_pools *pools, const struct recipe *recipe)
-{
-    generate(&pools->sound, recipe, &rng);
-    lent_copy(&pools->lent, &pools->sound);
-    lent_copy(&pools->before, &pools->sound);
-}
 
 /* ---- Sound pools --------------------------------------------------------- */
 
@@ -185,6 +90,9 @@ static void test_numbers(void)
     expect(LENSEMBER_CHUNK_WORDS == PAGES, "LENSEMBER_CHUNK_WORDS");
     expect(LENSEMBER_CHUNK_SLOTS == SLOT_WORDS, "LENSEMBER_CHUNK_SLOTS");
     expect(LENSEMBER_OK == 0 && LENSEMBER_SHAPE == 1 && LENSEMBER_DAMAGED == 2, "answers");
+    expect(LENSEMBER_TOO_BIG == 3 && LENSEMBER_NO_ROOM == 4, "answers of reserve");
+    expect(LENSEMBER_NO_BLOCK == 5 && LENSEMBER_FREE_SLOT == 6, "answers of release");
+    expect(LENSEMBER_NOTHING == 0 && LENSEMBER_SLOT == 1 && LENSEMBER_RUN == 2, "kinds");
     for (unsigned b = 0; b < CLASSES; b++) {
         const struct size_class *row = &size_classes[b];
         group.trials++;
@@ -196,32 +104,15 @@ static void test_numbers(void)
 
 /* ---- Named damage --------------------------------------------------------- */
 
-/* How much is tried in a pool of c chunks. */
-struct effort {
-    size_t c;
-    unsigned trials;   /* in one chunk, at most */
-    unsigned variants; /* at one page, at most */
-};
-
 static const struct effort efforts[] = {
     {1, 20000, 100}, {2, 1500, 100}, {3, 400, 5}, {16, 90, 3}};
 
-static void copy_site_chunks(struct records *to, const struct records *from, size_t chunk)
-{
-    chunk_copy(chunk_of(to, chunk), chunk_of(from, chunk));
-    if (chunk + 1 < from->c)
-        chunk_copy(chunk_of(to, chunk + 1), chunk_of(from, chunk + 1));
-}
-
-/* The lent pool has just been damaged in this chunk and perhaps the next. */
-static void expect_damaged(struct trial_pools *pools, size_t chunk, unsigned page,
+static void expect_damaged(const struct trial_pools *pools, size_t chunk, unsigned page,
                            unsigned variant)
 {
     size_t c = pools->lent.c;
-    uint64_t answer;
+    uint64_t answer = library_check(&pools->lent);
 
-    copy_site_chunks(&pools->before, &pools->lent, chunk);
-    answer = library_check(&pools->lent);
     group.trials++;
     expect(model_check(&pools->lent) == 2,
            "c %zu chunk %zu page %u variant %u: the model says sound",
@@ -232,64 +123,6 @@ static void expect_damaged(struct trial_pools *pools, size_t chunk, unsigned pag
     expect(lent_equal(&pools->lent, &pools->before),
            "c %zu chunk %zu page %u variant %u: a buffer was changed",
            c, chunk, page, variant);
-    copy_site_chunks(&pools->lent, &pools->sound, chunk);
-    copy_site_chunks(&pools->before, &pools->sound, chunk);
-}
-
-static void shuffled_pages(unsigned order[PAGES])
-{
-    for (unsigned i = 0; i < PAGES; i++) {
-        unsigned j = rng_below(&rng, i + 1);
-        order[i] = i;
-        order[i] = order[j];
-        order[j] = i;
-    }
-}
-
-static unsigned smaller(unsigned a, unsigned b)
-{
-    return a < b ? a : b;
-}
-
-static void test_case_in_chunk(const struct damage_case *way, struct trial_pools *pools,
-                               size_t chunk, const struct effort *effort)
-{
-    static struct site site;
-    unsigned order[PAGES];
-    unsigned done = 0;
-    bool one_page = way->where == AT_PAGE_0;
-    unsigned at_page = one_page ? way->variants : smaller(way->variants, effort->variants);
-
-    site_read(&site, &pools->lent, chunk);
-    shuffled_pages(order);
-    for (unsigned i = 0; i < PAGES; i++) {
-        unsigned page = order[i];
-        unsigned start = rng_below(&rng, way->variants);
-        if (!(site.pages[page].kind & way->where))
-            continue;
-        for (unsigned v = 0; v < at_page; v++) {
-            unsigned variant = (start + v) % way->variants;
-            if (done == effort->trials)
-                return;
-            if (!way->apply(&site, page, variant))
-                continue;
-            expect_damaged(pools, chunk, page, variant);
-            done++;
-        }
-    }
-}
-
-/* In the first, a middle and the last chunk. */
-static void test_case_in_pool(const struct damage_case *way, struct trial_pools *pools,
-                              const struct effort *effort)
-{
-    size_t first = 0, middle = effort->c / 2, last = effort->c - 1;
-
-    test_case_in_chunk(way, pools, first, effort);
-    if (middle != first)
-        test_case_in_chunk(way, pools, middle, effort);
-    if (last != middle)
-        test_case_in_chunk(way, pools, last, effort);
 }
 
 static void test_named_damage(void)
@@ -302,7 +135,7 @@ static void test_named_damage(void)
         group_begin("damage", damage_cases[n].name);
         for (size_t i = 0; i < COUNT(efforts); i++) {
             pools_generate(&pools[i], recipe_named("parade"));
-            test_case_in_pool(&damage_cases[n], &pools[i], &efforts[i]);
+            try_damage_case(&damage_cases[n], &pools[i], &efforts[i], expect_damaged);
         }
         group_end();
     }
@@ -403,6 +236,11 @@ static void test_flips(void)
 }
 
 /* ---- Random damage ---------------------------------------------------------- */
+
+static unsigned smaller(unsigned a, unsigned b)
+{
+    return a < b ? a : b;
+}
 
 static struct chunk any_chunk(const struct records *r)
 {
@@ -642,53 +480,6 @@ static void test_random_damage(void)
 
 /* ---- Bad input --------------------------------------------------------------- */
 
-/* Room for records of up to 18 chunks and one element, between guards. */
-enum { GUARD = 16, ROOM = 18 };
-
-struct shelf {
-    uint64_t bits[GUARD + ROOM * BIT_WORDS + 1 + GUARD];
-    uint32_t words[GUARD + ROOM * PAGES + 1 + GUARD];
-    uint64_t slots[GUARD + ROOM * SLOT_WORDS + 1 + GUARD];
-};
-
-static struct shelf shelf, shelf_before;
-
-static struct records shelf_records(struct shelf *s, size_t c)
-{
-    struct records r = {c, s->bits + GUARD, s->words + GUARD, s->slots + GUARD};
-    return r;
-}
-
-/* Fills everything, guards too. */
-static void shelf_fill_random(void)
-{
-    for (size_t i = 0; i < COUNT(shelf.bits); i++)
-        shelf.bits[i] = rng_next(&rng);
-    for (size_t i = 0; i < COUNT(shelf.words); i++)
-        shelf.words[i] = (uint32_t)rng_next(&rng);
-    for (size_t i = 0; i < COUNT(shelf.slots); i++)
-        shelf.slots[i] = rng_next(&rng);
-}
-
-/* Sound records for every count of chunks up to 18. */
-static void shelf_fill_sound(void)
-{
-    struct records r = shelf_records(&shelf, ROOM);
-
-    shelf_fill_random();
-    generate(&r, recipe_named("mixed"), &rng);
-}
-
-struct lengths {
-    size_t bits, words, slots;
-};
-
-static struct lengths exact_lengths(size_t c)
-{
-    struct lengths n = {c * BIT_WORDS, c * PAGES, c * SLOT_WORDS};
-    return n;
-}
-
 /* Both calls answer 1, and all that was lent and lies around it is unchanged. */
 static void expect_shape_refused(uint64_t c, struct lengths n)
 {
@@ -708,103 +499,27 @@ static void expect_shape_refused(uint64_t c, struct lengths n)
     shelf = shelf_before;
 }
 
-/* Chunk counts for which 8c, 512c or 4096c wraps around are among these. */
-static const uint64_t bad_counts[] = {
-    0, 17, 18, 255, 256, 257,
-    UINT64_C(1) << 32, (UINT64_C(1) << 32) + 1,
-    UINT64_C(1) << 52, (UINT64_C(1) << 52) + 1,
-    UINT64_C(1) << 55, (UINT64_C(1) << 55) + 1,
-    UINT64_C(1) << 61, (UINT64_C(1) << 61) + 1, (UINT64_C(1) << 61) + 16,
-    UINT64_C(1) << 63, (UINT64_C(1) << 63) + 1,
-    UINT64_MAX - 15, UINT64_MAX,
-};
-
-static void try_bad_counts(void)
-{
-    for (size_t i = 0; i < COUNT(bad_counts); i++)
-        for (size_t chunks = 0; chunks <= ROOM; chunks++)
-            expect_shape_refused(bad_counts[i], exact_lengths(chunks));
-}
-
-/* One short, exact, one long: every mixture but the exact one. */
-static void try_off_by_one(size_t c)
-{
-    for (int bits = -1; bits <= 1; bits++)
-        for (int words = -1; words <= 1; words++)
-            for (int slots = -1; slots <= 1; slots++) {
-                struct lengths n = exact_lengths(c);
-                if (bits == 0 && words == 0 && slots == 0)
-                    continue;
-                n.bits += (size_t)bits;
-                n.words += (size_t)words;
-                n.slots += (size_t)slots;
-                expect_shape_refused(c, n);
-            }
-}
-
-/* Each buffer alone with this many chunks' elements (0: empty), then all three. */
-static void try_length_of(size_t c, size_t other)
-{
-    struct lengths wrong = exact_lengths(other);
-    struct lengths n;
-
-    if (other == c)
-        return;
-    n = exact_lengths(c);
-    n.bits = wrong.bits;
-    expect_shape_refused(c, n);
-    n = exact_lengths(c);
-    n.words = wrong.words;
-    expect_shape_refused(c, n);
-    n = exact_lengths(c);
-    n.slots = wrong.slots;
-    expect_shape_refused(c, n);
-    expect_shape_refused(c, wrong);
-}
-
-/* Lengths in bytes, or those of another buffer. */
-static void try_mixed_up_lengths(void)
-{
-    struct lengths bytes = {64, 2048, 32768};
-    struct lengths swapped = {BIT_WORDS, SLOT_WORDS, PAGES};
-
-    expect_shape_refused(1, bytes);
-    expect_shape_refused(1, swapped);
-}
-
 static void test_bad_counts(void)
 {
     group_begin("refused-1", "chunk-count-sound-records");
     shelf_fill_sound();
-    try_bad_counts();
+    try_bad_counts(expect_shape_refused);
     group_end();
     group_begin("refused-1", "chunk-count-damaged-records");
     shelf_fill_random();
-    try_bad_counts();
+    try_bad_counts(expect_shape_refused);
     group_end();
-}
-
-static void try_bad_lengths(void)
-{
-    static const size_t counts[] = {1, 2, 3, 16};
-
-    for (size_t i = 0; i < COUNT(counts); i++) {
-        try_off_by_one(counts[i]);
-        for (size_t other = 0; other <= ROOM; other++)
-            try_length_of(counts[i], other);
-    }
-    try_mixed_up_lengths();
 }
 
 static void test_bad_lengths(void)
 {
     group_begin("refused-1", "length-sound-records");
     shelf_fill_sound();
-    try_bad_lengths();
+    try_bad_lengths(expect_shape_refused);
     group_end();
     group_begin("refused-1", "length-damaged-records");
     shelf_fill_random();
-    try_bad_lengths();
+    try_bad_lengths(expect_shape_refused);
     group_end();
 }
 
@@ -904,10 +619,7 @@ static void test_fresh(void)
 
 int main(int argc, char **argv)
 {
-    uint64_t seed = argc > 1 ? strtoull(argv[1], NULL, 0) : UINT64_C(20260102);
-
-    rng.state = seed;
-    printf("seed %" PRIu64 "\n", seed);
+    program_begin(argc, argv);
     test_numbers();
     test_sample();
     test_sound_pools();
@@ -918,6 +630,5 @@ int main(int argc, char **argv)
     test_bad_lengths();
     test_empty_buffers();
     test_fresh();
-    printf("damage: %u passed, %u failed\n", groups_passed, groups_failed);
-    return groups_failed > 0;
+    return program_end("damage");
 }

@@ -1,7 +1,75 @@
-// The calls as C sees them (include/lensember.h): a slice crosses as a pointer and its number of elements.
+// The calls as C sees them (include/lensember.h): a slice crosses as a pointer and its number of elements, an answer as a plain struct.
 ghost use mathlib.Core.Path.{_≡_};
 ghost use Rattle.records.specs.Pool.{pool};
 ghost use Rattle.records.specs.Calls.{admitOf, leaves, freshOf};
+ghost use Rattle.reserve.specs.Reserve.{reserveOf};
+ghost use Rattle.release.specs.Release.{releaseOf, sizeOf};
+ghost use Rattle.lensember.specs.Flat.{flatReserved, flatSized, reservedOf};
+
+// struct lensember_reserved: kind is 0 for nothing, 1 for a slot, 2 for a page run; what does not apply is 0.
+#[repr(C)]
+pub struct FlatReserved {
+    pub refusal: u64,
+    pub place: u64,
+    pub size: u64,
+    pub kind: u64,
+    pub class: u64,
+    pub first: u64,
+    pub number: u64,
+    pub pages: u64,
+}
+
+// struct lensember_sized
+#[repr(C)]
+pub struct FlatSized {
+    pub refusal: u64,
+    pub size: u64,
+}
+
+// An answer with its kind as a number.
+fn flat_reserved(r: reserve::Reserved) -> FlatReserved
+    ensures { λ x. ⌜ x ≡ flatReserved r ⌝ }
+{
+    let k = r.kind;
+    match k {
+        reserve::Given::Slot(s) => {
+            return FlatReserved {
+                refusal: r.refusal,
+                place: r.place,
+                size: r.size,
+                kind: 1,
+                class: s.class,
+                first: s.first,
+                number: s.number,
+                pages: 0,
+            };
+        }
+        reserve::Given::Run(n) => {
+            return FlatReserved {
+                refusal: r.refusal,
+                place: r.place,
+                size: r.size,
+                kind: 2,
+                class: 0,
+                first: 0,
+                number: 0,
+                pages: n,
+            };
+        }
+        reserve::Given::None => {
+            return FlatReserved {
+                refusal: r.refusal,
+                place: r.place,
+                size: r.size,
+                kind: 0,
+                class: 0,
+                first: 0,
+                number: 0,
+                pages: 0,
+            };
+        }
+    }
+}
 
 // Whether lent records are sound: refusal 1 or 2, or 0.
 #[no_mangle]
@@ -22,4 +90,50 @@ pub extern "C" fn lensember_fresh(
     ensures { λ r. ⌜ leaves r (pool (now (bits .exit)) (now (words .exit)) (now (slots .exit))) ≡ freshOf c (pool (now (bits .entry)) (now (words .entry)) (now (slots .entry))) ⌝ }
 {
     fresh::fresh(c, bits, words, slots)
+}
+
+// Document 01's reserve.
+#[no_mangle]
+pub extern "C" fn lensember_reserve(
+    c: u64,
+    bits: &mut [u64],
+    words: &mut [u32],
+    slots: &mut [u64],
+    size: u64,
+) -> FlatReserved
+    ensures { λ r. ⌜ leaves r (pool (now (bits .exit)) (now (words .exit)) (now (slots .exit))) ≡ reservedOf (reserveOf c (pool (now (bits .entry)) (now (words .entry)) (now (slots .entry))) size) ⌝ }
+{
+    flat_reserved(reserve::reserve(c, bits, words, slots, size))
+}
+
+// Document 01's release.
+#[no_mangle]
+pub extern "C" fn lensember_release(
+    c: u64,
+    bits: &mut [u64],
+    words: &mut [u32],
+    slots: &mut [u64],
+    place: u64,
+) -> u64
+    ensures { λ r. ⌜ leaves r (pool (now (bits .exit)) (now (words .exit)) (now (slots .exit))) ≡ releaseOf c (pool (now (bits .entry)) (now (words .entry)) (now (slots .entry))) place ⌝ }
+{
+    release::release(c, bits, words, slots, place)
+}
+
+// Document 01's block size.
+#[no_mangle]
+pub extern "C" fn lensember_block_size(
+    c: u64,
+    bits: &[u64],
+    words: &[u32],
+    slots: &[u64],
+    place: u64,
+) -> FlatSized
+    ensures { λ r. ⌜ r ≡ flatSized (sizeOf c (pool (now (bits .entry)) (now (words .entry)) (now (slots .entry))) place) ⌝ }
+{
+    let r = release::block_size(c, bits, words, slots, place);
+    FlatSized {
+        refusal: r.refusal,
+        size: r.size,
+    }
 }

@@ -31,9 +31,12 @@ gone : (c : ℕ) (p : Pool) → Good c p → (q : ℕ) (x : Spot) → There c p 
 gone c p h q (Nowhere r) t e = absurd (omega arith)
 gone c p h q (Run g n) t e =
     let a = t .some in
-    let r : suc (n - 1) ≡ n = omega arith in
-    (runBlock g (n - 1), sym (t .place), ap (λ (m : ℕ). sized 0 (4096 * m)) (sym r),
-      subst (λ (m : ℕ). Loses c p (putRun 0 p g (zeros m)) (runBlock g (n - 1))) r (give-large c p h g (n - 1) (t .inside) (t .kind)))
+    let r : suc (n - 1) ≡ n = omega arith in (
+      runBlock g (n - 1),
+      sym (t .place),
+      ap (λ (m : ℕ). sized 0 (4096 * m)) (sym r),
+      subst (λ (m : ℕ). Loses c p (putRun 0 p g (zeros m)) (runBlock g (n - 1))) r (give-large c p h g (n - 1) (t .inside) (t .kind)),
+    )
 gone c p h q (Slot g b s) t e = (slotBlock g b s, sym (t .place), refl, give-slot c p h g b s (t .inside) (t .kind) (t .slot) (t .taken))
 
 -- a refusal changes nothing
@@ -81,5 +84,5 @@ release-means =
       served = λ c p h q e. gone c p h q (spot c p q) (there c p q) e;
       refused = λ c p q r e. kept p (spot c p q) r e;
       run = λ c p h g k l e. run-found c p h g l k e;
-      slot = λ c p h g b s l e t. slot-found c p h g l b s e t
+      slot = λ c p h g b s l e t. slot-found c p h g l b s e t;
     }

@@ -1,0 +1,179 @@
+/*
+ * How long do reserve, release and block size take, against one plain OR over
+ * the same records? How it is timed: timing.h.
+ *
+ * Every call reads all records for the check, so two calls take at least twice
+ * as long as the check alone.
+ */
+#include "lensember.h"
+#include "timing.h"
+
+#include <stdio.h>
+#include <stdlib.h>
+
+enum { ROW = 24, TABLE = 5000 };
+
+/* The pool is filled by these in turn. */
+static const uint64_t sizes[] = {
+    200000, 320, TABLE, 1000, ROW, 3000, 40000, TABLE, 64, 1792, TABLE, 3073, ROW};
+
+/* The blocks of the pool, in the order in which they were reserved. */
+static struct lensember_reserved blocks[MAX_CHUNKS * 4000];
+static size_t count;
+
+/* Blocks whose size is asked for. */
+static uint64_t row, table;
+
+static struct lensember_reserved reserve(size_t c, uint64_t size)
+{
+    return lensember_reserve(c, LENT(c), size);
+}
+
+static uint64_t release(size_t c, uint64_t place)
+{
+    return lensember_release(c, LENT(c), place);
+}
+
+static void must(uint64_t answer, const char *what)
+{
+    if (answer != LENSEMBER_OK) {
+        fprintf(stderr, "calls: %s is not answered 0\n", what);
+        exit(2);
+    }
+}
+
+/* ---- Pools --------------------------------------------------------------- */
+
+static bool put(size_t c, uint64_t size)
+{
+    if (count == sizeof blocks / sizeof blocks[0])
+        return false;
+    blocks[count] = reserve(c, size);
+    if (blocks[count].refusal != LENSEMBER_OK)
+        return false;
+    count++;
+    return true;
+}
+
+/* Gives back the block reserved last of this given size; there is one. */
+static void take_out_last(size_t c, uint64_t given)
+{
+    size_t i = count - 1;
+
+    while (blocks[i].size != given)
+        i--;
+    must(release(c, blocks[i].place), "release");
+    blocks[i] = blocks[--count];
+}
+
+/* The row and the table with the highest places. */
+static void choose_blocks(void)
+{
+    row = table = 0;
+    for (size_t i = 0; i < count; i++) {
+        if (blocks[i].size == ROW && blocks[i].place > row)
+            row = blocks[i].place;
+        if (blocks[i].size == 8192 && blocks[i].place > table)
+            table = blocks[i].place;
+    }
+}
+
+/* One row and one table only. */
+static void make_fresh(size_t c)
+{
+    count = 0;
+    must(lensember_fresh(c, LENT(c)), "fresh");
+    put(c, ROW);
+    put(c, TABLE);
+}
+
+/* Full, but for one row and one table, which are timed. */
+static void make_full(size_t c)
+{
+    bool served = true;
+
+    make_fresh(c);
+    while (served) {
+        served = false;
+        for (size_t i = 0; i < sizeof sizes / sizeof sizes[0]; i++)
+            served = put(c, sizes[i]) || served;
+    }
+    take_out_last(c, ROW);
+    take_out_last(c, 8192);
+}
+
+/* Of a full pool every second block is given back. */
+static void make_half(size_t c)
+{
+    size_t kept = 0;
+
+    make_full(c);
+    for (size_t i = 0; i < count; i++) {
+        if (i % 2 == 0)
+            blocks[kept++] = blocks[i];
+        else
+            must(release(c, blocks[i].place), "release");
+    }
+    count = kept;
+}
+
+/* ---- What is timed --------------------------------------------------------- */
+
+static uint64_t pair(size_t c, uint64_t size)
+{
+    struct lensember_reserved block = reserve(c, size);
+
+    return block.refusal + release(c, block.place);
+}
+
+static uint64_t pair_row(size_t c)
+{
+    return pair(c, ROW);
+}
+
+static uint64_t pair_table(size_t c)
+{
+    return pair(c, TABLE);
+}
+
+static uint64_t size_row(size_t c)
+{
+    return lensember_block_size(c, LENT(c), row).refusal;
+}
+
+static uint64_t size_table(size_t c)
+{
+    return lensember_block_size(c, LENT(c), table).refusal;
+}
+
+static timed_call *const calls[] = {call_or, pair_row, pair_table, size_row, size_table};
+enum { CALLS = sizeof calls / sizeof calls[0] };
+
+static void measure(const char *name, void (*make)(size_t), size_t c)
+{
+    double best[CALLS];
+
+    make(c);
+    choose_blocks();
+    for (unsigned n = 1; n < CALLS; n++)
+        must(calls[n](c), "a call");
+    time_calls(calls, best, CALLS, c);
+    printf("%-6s %2zu %8.3f", name, c, best[0]);
+    for (unsigned n = 1; n < CALLS; n++)
+        printf(" %8.3f %6.2f", best[n], best[n] / best[0]);
+    printf("\n");
+    fflush(stdout);
+}
+
+int main(void)
+{
+    printf("%-6s %2s %8s %15s %15s %15s %15s\n", "pool", "c", "or us", "row pair ratio",
+           "table pair rat.", "row size ratio", "table size rat.");
+    for (size_t c = 1; c <= MAX_CHUNKS; c += MAX_CHUNKS - 1) {
+        measure("fresh", make_fresh, c);
+        measure("half", make_half, c);
+        measure("full", make_full, c);
+    }
+    printf("times are microseconds a chunk; a pair is a reserve and a release\n");
+    return 0;
+}

@@ -1,0 +1,30 @@
+#include "calls.h"
+
+/* The six arguments that lend the buffers. */
+#define LENT(r) \
+    (r)->bits, (r)->c * BIT_WORDS, (r)->words, (r)->c * PAGES, (r)->slots, (r)->c * SLOT_WORDS
+
+uint64_t library_check(const struct records *r)
+{
+    return lensember_check(r->c, LENT(r));
+}
+
+uint64_t library_fresh(const struct records *r)
+{
+    return lensember_fresh(r->c, LENT(r));
+}
+
+struct lensember_reserved library_reserve(const struct records *r, uint64_t size)
+{
+    return lensember_reserve(r->c, LENT(r), size);
+}
+
+uint64_t library_release(const struct records *r, uint64_t place)
+{
+    return lensember_release(r->c, LENT(r), place);
+}
+
+struct lensember_sized library_block_size(const struct records *r, uint64_t place)
+{
+    return lensember_block_size(r->c, LENT(r), place);
+}

@@ -1,0 +1,14 @@
+/* The library's calls, each on the whole records of a pool. */
+#ifndef CALLS_H
+#define CALLS_H
+
+#include "lensember.h"
+#include "model.h"
+
+uint64_t library_check(const struct records *r);
+uint64_t library_fresh(const struct records *r);
+struct lensember_reserved library_reserve(const struct records *r, uint64_t size);
+uint64_t library_release(const struct records *r, uint64_t place);
+struct lensember_sized library_block_size(const struct records *r, uint64_t place);
+
+#endif

@@ -1,0 +1,18 @@
+/* Random sizes and places to call with, likely and unlikely ones. */
+#ifndef DRAWS_H
+#define DRAWS_H
+
+#include "pool.h"
+
+uint64_t draw_small_size(void);                    /* 0 to 3,072 */
+uint64_t draw_size_of_class(unsigned class_number);
+uint64_t draw_large_size(unsigned most_pages);     /* 3,073 to 2,093,056 at most */
+uint64_t draw_hostile_size(void);                  /* around each limit, or any number */
+
+/* The place of a live block; page 0 where none is found. */
+uint64_t draw_live_place(const struct pool *pool);
+
+/* Any of the places that document 01 names under refusals 5 and 6, and others. */
+uint64_t draw_hostile_place(const struct pool *pool);
+
+#endif

@@ -1,0 +1,84 @@
+/*
+ * An independent pool, written from document 01, "Taking and giving back".
+ *
+ * It keeps no bits and no page words: a chunk is a list of runs by rising
+ * page, a run of slots has the set of those that are taken, and a gap is what
+ * lies between two runs. The records are written from the runs only to be
+ * compared.
+ */
+#ifndef POOL_H
+#define POOL_H
+
+#include "model.h"
+
+#define PAGE_BYTES UINT64_C(4096)
+#define CHUNK_BYTES UINT64_C(2097152)
+#define LARGEST_SMALL UINT64_C(3072)
+#define LARGEST UINT64_C(2093056)
+
+struct pool_run {
+    enum run_kind kind;
+    unsigned first, pages;
+    unsigned class_number; /* of a class run */
+    unsigned taken_count;  /* of a class run: how many slots are taken */
+    bool taken[512];       /* and which */
+};
+
+struct pool_chunk {
+    unsigned count;
+    struct pool_run *runs[PAGES]; /* by rising page */
+};
+
+/* The pages of one chunk that a call changed the records of. */
+struct touched {
+    size_t chunk;
+    unsigned first, pages; /* no pages: nothing was changed */
+};
+
+struct pool {
+    size_t c;
+    unsigned long live; /* blocks handed out and not given back */
+    struct touched touched;
+    struct pool_chunk chunks[MAX_CHUNKS];
+};
+
+/* All pools start as zero, with no runs to forget. */
+void pool_fresh(struct pool *pool, size_t c);
+void pool_end(struct pool *pool); /* forgets all runs */
+
+/* Takes over what sound records say. */
+void pool_read(struct pool *pool, const struct records *sound);
+
+/* Puts a run on free pages, all slots free. The length of a class run is known. */
+struct pool_run *pool_put_large(struct pool *pool, size_t chunk, unsigned first, unsigned pages);
+struct pool_run *pool_put_class(struct pool *pool, size_t chunk, unsigned first, unsigned b);
+void pool_take_slot(struct pool *pool, struct pool_run *run, unsigned slot);
+
+unsigned class_of_size(uint64_t size); /* for up to 3,072 bytes */
+uint64_t run_place(size_t chunk, const struct pool_run *run);
+
+/* Answers, all 0 where they do not apply. */
+enum block_kind { BLOCK_NOTHING = 0, BLOCK_SLOT = 1, BLOCK_RUN = 2 };
+
+struct pool_reserved {
+    uint64_t refusal;
+    uint64_t place, size;
+    enum block_kind kind;
+    uint64_t class_number, first_page, slot;
+    uint64_t pages;
+};
+
+struct pool_sized {
+    uint64_t refusal;
+    uint64_t size;
+};
+
+struct pool_reserved pool_reserve(struct pool *pool, uint64_t size);
+uint64_t pool_release(struct pool *pool, uint64_t place);
+struct pool_sized pool_block_size(const struct pool *pool, uint64_t place);
+
+/* The records of the pool: all of them, or only what the last call changed. */
+void pool_write(const struct pool *pool, struct records *out);
+void pool_write_touched(const struct pool *pool, struct records *out);
+
+#endif

@@ -1,0 +1,35 @@
+/* Damaged pools to try calls on: each named case of damage, done in turn. */
+#ifndef TRIALS_H
+#define TRIALS_H
+
+#include "cases.h"
+#include "lent.h"
+
+/*
+ * A sound pool, the copy that is damaged and lent, and what was lent as it was
+ * before the call. Between two trials all three are equal.
+ */
+struct trial_pools {
+    struct records sound, lent, before;
+};
+
+struct trial_pools pools_new(size_t c);
+void pools_free(struct trial_pools *pools);
+void pools_generate(struct trial_pools *pools, const struct recipe *recipe);
+
+/* How much is tried in a pool of c chunks. */
+struct effort {
+    size_t c;
+    unsigned trials;   /* in one chunk, at most */
+    unsigned variants; /* at one page, at most */
+};
+
+/* A trial on a pool that has just been damaged there. */
+typedef void damage_trial(const struct trial_pools *pools, size_t chunk, unsigned page,
+                          unsigned variant);
+
+/* Does one case of damage to the first, a middle and the last chunk in turn. */
+void try_damage_case(const struct damage_case *way, struct trial_pools *pools,
+                     const struct effort *effort, damage_trial *try_it);
+
+#endif

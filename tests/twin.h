@@ -1,0 +1,38 @@
+/*
+ * A pool kept twice: by the library and by the model. Each call is made on
+ * both; the answers, and all three buffers after it, are compared.
+ */
+#ifndef TWIN_H
+#define TWIN_H
+
+#include "lent.h"
+#include "pool.h"
+
+struct twin {
+    struct records lent;  /* the library's */
+    struct records right; /* the same, written from the model's runs */
+    struct records anew;  /* written anew from time to time, to compare */
+    struct pool model;
+    unsigned long calls;
+};
+
+struct twin *twin_new(size_t c); /* fresh */
+void twin_free(struct twin *twin);
+
+/* A generated pool, or whatever the model has been given by hand. */
+void twin_generate(struct twin *twin, const struct recipe *recipe);
+void twin_settle(struct twin *twin);
+
+/* These count as trials. Answered is what the model says. */
+void twin_fresh(struct twin *twin);
+struct pool_reserved twin_reserve(struct twin *twin, uint64_t size);
+uint64_t twin_release(struct twin *twin, uint64_t place);
+struct pool_sized twin_block_size(struct twin *twin, uint64_t place);
+
+/* How often the library gave each answer, 0 to 6. Others count as 7. */
+struct tally {
+    unsigned long reserve[8], release[8], block_size[8];
+};
+extern struct tally tally;
+
+#endif
