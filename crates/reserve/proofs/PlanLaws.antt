@@ -160,7 +160,7 @@ module _ (c : ℕ) (p : Pool) (s : sound c p ≡ true) where
     where
       go : (x : Found) → findPages c (p .bits) n ≡ x → PlanOk c p (ifFound x (λ g. NewLarge g n))
       go (At g) e = gap-free n g a e
-      go Nothing e = tt
+      go Nothing e = omega arith
 
   slot-ok : (b : ℕ) → b < 30 → PlanOk c p (planSlot c p b)
   unfolding planSlot slotOrRun
@@ -172,13 +172,13 @@ module _ (c : ℕ) (p : Pool) (s : sound c p ≡ true) where
     where
       go : (x : Found) → findPages c (p .bits) (pages b) ≡ x → PlanOk c p (ifFound x (λ g. NewRun g b))
       go (At g) e = (l, gap-free (pages b) g (row-facts b l .pages-least) e)
-      go Nothing e = tt
+      go Nothing e = omega arith
 
 pub plan-ok : (c : ℕ) (p : Pool) → sound c p ≡ true → (n : ℕ) → PlanOk c p (plan c p n)
 unfolding plan
 plan-ok c p s n =
     le-cases (PlanOk c p) n 3072 (λ h. slot-ok c p s (classFor n) (class-smallest n h .class))
-    (λ h. le-cases (PlanOk c p) n 2093056 (λ k. run-ok c p s (pagesFor n) (omega arith)) (λ k. tt))
+    (λ h. le-cases (PlanOk c p) n 2093056 (λ k. run-ok c p s (pagesFor n) (omega arith)) (λ k. omega arith))
 
 -- ---- the code's own forms
 

@@ -1,2 +1,3 @@
 pub mod Reserve
 pub mod Plans
+pub mod Means

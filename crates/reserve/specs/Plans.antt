@@ -23,7 +23,7 @@ pub record PagesFree (c : ℕ) (p : Pool) (g n : ℕ) : Type 0 where
   pub clear : (i : ℕ) → g ≤ i → i < g + n → kindAt p i ≡ free
 
 abbrev pub PlanOk : ℕ → Pool → Plan → Type 0
-PlanOk c p (Refuse r) = Unit {0}
+PlanOk c p (Refuse r) = 1 ≤ r
 PlanOk c p (InRun g b s) = SlotFree c p g b s
 PlanOk c p (NewRun g b) = (b < 30) × PagesFree c p g (pages b)
 PlanOk c p (NewLarge g n) = PagesFree c p g n

@@ -11,6 +11,7 @@ ghost use Rattle.records.specs.Kinds.{class, large, slotsOf, wordsOf};
 ghost use Rattle.records.specs.Pool.{pool};
 ghost use Rattle.records.specs.Calls.{admitOf, leaves};
 ghost use Rattle.reserve.specs.Reserve.{freeSlot, slotPage, planSlot, planRun, plan, perform, slotGiven, answer, attempt, reserveOf};
+ghost use Rattle.reserve.specs.Means.{ReserveMeans};
 ghost use Rattle.reserve.specs.Plans.{PlanOk, PlanLow};
 
 // What a reserve will do: refuse with a number; take slot s of the run of class b at page g; start a run of class b at page g; start a
@@ -288,4 +289,11 @@ pub fn reserve(c: u64, bits: &mut [u64], words: &mut [u32], slots: &mut [u64], n
         };
     }
     reserve_sound(c, bits, words, slots, n)
+}
+
+// What a reserve does to sound records, and that it finds what document 01 says.
+pub fn reserve_keeps() -> bool
+    ensures { λ r. ⌜ ReserveMeans ⌝ }
+{
+    true
 }

@@ -1,0 +1,189 @@
+-- What a reserve does to sound records, and that it finds what document 01 says. Assumes nothing.
+use mathlib.Core.Path.{_≡_, refl, sym, ap, ap₂, _∙_, subst}
+use mathlib.Core.Logic.{_≢_, _↔_, by-cases}
+use mathlib.Core.Bool.{Bool, true, false, cond, _&&_, false≢true}
+use mathlib.Core.List.{List}
+use Prim.Native.Nat.{ℕ, zero, suc, _+_, _-_, _*_, _≤_, _<_}
+use native.Mathlib.Decide.{ℕ-discrete, decLt}
+use native.Mathlib.Nat.{mul-le-mul-right}
+use native.Mathlib.Omega.{arith}
+use lib.Dec.{eqb, ltb}
+use borrow.Author.Tests.{eq-eqb, lt-ltb}
+use Rattle.bitrow.specs.Row.{bitAt, isSet}
+use Rattle.bitrow.proofs.Rows.{First}
+use Rattle.classes.specs.Classes.{size, slots, pages, classFor}
+use Rattle.classes.proofs.ClassLaws.{any-row, row-facts}
+use Rattle.records.specs.Kinds.{Kind, large, class, free, wordsOf, behind}
+use Rattle.records.specs.Pool.{Pool, kindAt, slotAt}
+use Rattle.records.specs.Runs.{spanOf}
+use Rattle.records.proofs.Flags.{and-made, cond-lt, cond-nlt}
+use Rattle.records.proofs.RunLaws.{sound-runs}
+use Rattle.gaps.specs.declared.Found.{Found}
+use Rattle.gaps.specs.declared.Found.the-variants.{At, Nothing}
+use Rattle.gaps.specs.Gaps.{findPages}
+use Rattle.gaps.proofs.Answers.{nothing-none, none-nothing}
+use Rattle.blocks.specs.Blocks.{Block, runBlock}
+use Rattle.blocks.specs.Stores.{Good, Gains, putRun, putSlot}
+use Rattle.blocks.proofs.KeepLaws.{put-large, put-slot, put-class}
+use Rattle.reserve.specs.declared.Plan.{Plan}
+use Rattle.reserve.specs.declared.Plan.the-variants.{Refuse, InRun, NewRun, NewLarge}
+use Rattle.reserve.specs.Reserve.{freeSlot, isRunOf, hasSlot, slotPage, ifFound, slotOrRun, planSlot, planRun, plan, perform, answer, attempt}
+use Rattle.reserve.specs.Plans.{SlotFree, PagesFree, PlanOk}
+use Rattle.reserve.specs.Means.{blockOf, NoSlot, NoGap, ReserveMeans}
+use Rattle.reserve.proofs.PlanLaws.{free-first, Searched, searched, has-free, plan-ok}
+
+-- ---- what is put in
+
+gains : (c : ℕ) (p : Pool) → Good c p → (x : Plan) → PlanOk c p x → answer x .refusal ≡ 0 → Gains c p (perform p x) (blockOf (answer x))
+unfolding behind
+gains c p h (Refuse r) k e = absurd (omega arith)
+gains c p h (InRun g b s) k e = put-slot c p h g b s (k .inside) (k .kind) (k .slot) (k .clear)
+gains c p h (NewRun g b) (l, k) e =
+    let r = row-facts b l .pages-least in
+    let i = k .inside in
+    put-class c p h g b l (omega arith) (λ j x y. k .clear j x (omega arith))
+gains c p h (NewLarge g m) k e =
+    let a = k .some in let f = k .few in let i = k .inside in
+    let r : suc (m - 1) ≡ m = omega arith in
+    subst (λ (z : ℕ). Gains c p (putRun 1 p g (wordsOf (large (m - 1)))) (record { place = 4096 * g; size = 4096 * z })) r
+    (put-large c p h g (m - 1) (omega arith) (omega arith) (λ j x y. k .clear j x (omega arith)))
+
+kept : (p : Pool) (x : Plan) (r : ℕ) → answer x .refusal ≡ suc r → perform p x ≡ p
+kept p (Refuse n) r e = refl
+kept p (InRun g b s) r e = absurd (omega arith)
+kept p (NewRun g b) r e = absurd (omega arith)
+kept p (NewLarge g n) r e = absurd (omega arith)
+
+-- ---- the lowest free slot
+
+free-bit : (p : Pool) (g s : ℕ) → slotAt p g s ≡ false → bitAt (p .slots) (512 * g + s) ≢ 1
+unfolding slotAt isSet
+free-bit p g s e f = false≢true (sym e ∙ eq-eqb (bitAt (p .slots) (512 * g + s)) 1 f)
+
+-- a free slot is not below the lowest one
+free-above : (p : Pool) (b g s : ℕ) → s < slots b → slotAt p g s ≡ false → freeSlot (p .slots) b g ≤ s
+free-above p b g s l e =
+    by-cases (decLt s (freeSlot (p .slots) b g)) (λ h. absurd (free-bit p g s e (free-first (p .slots) b g .below (512 * g + s) (omega arith) (omega arith))))
+    (λ h. omega arith)
+
+-- so a run that has one is found
+found-run : (p : Pool) (b g s : ℕ) → kindAt p g ≡ class b → s < slots b → slotAt p g s ≡ false → hasSlot p b g ≡ true
+unfolding hasSlot
+found-run p b g s k l e =
+    let a = free-above p b g s l e in
+    and-made (isRunOf b (kindAt p g)) (ltb (freeSlot (p .slots) b g) (slots b)) (ap (isRunOf b) k ∙ eq-eqb b b refl)
+    (lt-ltb (freeSlot (p .slots) b g) (slots b) (omega arith))
+
+slot-plan : (c : ℕ) (p : Pool) (b g s : ℕ) → planSlot c p b ≡ InRun g b s → (g ≡ slotPage p b 0 (512 * c)) × (s ≡ freeSlot (p .slots) b g) × (g < 512 * c)
+unfolding planSlot slotOrRun
+slot-plan c p b g s e =
+    by-cases (decLt (slotPage p b 0 (512 * c)) (512 * c))
+    (λ l. let f : InRun (slotPage p b 0 (512 * c)) b (freeSlot (p .slots) b (slotPage p b 0 (512 * c))) ≡ InRun g b s = sym (cond-lt (slotPage p b 0 (512 * c)) (512 * c) _ _ l) ∙ e in
+    let x : slotPage p b 0 (512 * c) ≡ g = cc in
+    let y : freeSlot (p .slots) b (slotPage p b 0 (512 * c)) ≡ s = cc in
+    (sym x, sym y ∙ ap (freeSlot (p .slots) b) x, omega arith))
+    (λ l. absurd (no (findPages c (p .bits) (pages b)) (sym (cond-nlt (slotPage p b 0 (512 * c)) (512 * c) _ _ (omega arith)) ∙ e)))
+  where
+    no : (x : Found) → ifFound x (λ f. NewRun f b) ≡ InRun g b s → ⊥
+    no (At f) q = let z : _≡_ {A = ℕ} 0 1 = cc in omega arith
+    no Nothing q = let z : _≡_ {A = ℕ} 0 1 = cc in omega arith
+
+lowest-slot : (c : ℕ) (p : Pool) → Good c p → (b g s : ℕ) → planSlot c p b ≡ InRun g b s
+    → (f t : ℕ) → f < 512 * c → kindAt p f ≡ class b → t < slots b → slotAt p f t ≡ false → 4096 * g + s * size b ≤ 4096 * f + t * size b
+unfolding behind
+lowest-slot c p h b g s e f t lf k lt free′ =
+    let (x, y, z) = slot-plan c p b g s e in
+    let w = searched p b (512 * c) 0 in
+    let low : slotPage p b 0 (512 * c) ≤ f =
+    by-cases (decLt f (slotPage p b 0 (512 * c)))
+    (λ q. absurd (false≢true (sym (w .before f (omega arith) q) ∙ found-run p b f t k lt free′))) (λ q. omega arith) in
+    let own = has-free c p b g z (subst (λ (i : ℕ). hasSlot p b i ≡ true) (sym x) (w .here (omega arith))) in
+    by-cases (ℕ-discrete f g) (λ q. same q y (free-above p b f t lt free′)) (λ q. apart q z low x (own .kind) (own .slot) y)
+  where
+    -- in the same run
+    same : f ≡ g → s ≡ freeSlot (p .slots) b g → freeSlot (p .slots) b f ≤ t → 4096 * g + s * size b ≤ 4096 * f + t * size b
+    same q y a =
+        let r : freeSlot (p .slots) b f ≡ freeSlot (p .slots) b g = ap (freeSlot (p .slots) b) q in
+        let m = mul-le-mul-right {m = s} {n = t} (size b) (omega arith) in omega arith
+
+    -- in a run behind it
+    apart : f ≢ g → g < 512 * c → slotPage p b 0 (512 * c) ≤ f → g ≡ slotPage p b 0 (512 * c) → kindAt p g ≡ class b → freeSlot (p .slots) b g < slots b
+        → s ≡ freeSlot (p .slots) b g → 4096 * g + s * size b ≤ 4096 * f + t * size b
+    apart q z low x kg sl y =
+        let span : spanOf (kindAt p g) ≡ suc (pages b - 1) = ap spanOf kg in
+        let spanf : spanOf (kindAt p f) ≡ suc (pages b - 1) = ap spanOf k in
+        let fit = any-row b .fit in
+        let m = mul-le-mul-right {m = s} {n = slots b} (size b) (omega arith) in
+        let behind-run : g + suc (pages b - 1) ≤ f =
+        by-cases (decLt f (g + suc (pages b - 1)))
+        (λ u. absurd (q (sym (sound-runs c p (h .whole) .apart g f f z lf (record { low = omega arith; high = omega arith })
+        (record { low = omega arith; high = omega arith }))))) (λ u. omega arith) in
+        omega arith
+
+-- ---- refusal 4
+
+-- a search that is refused found nothing
+none-found : (f : ℕ → Plan) → ((g r : ℕ) → f g ≢ Refuse r) → (x : Found) → ifFound x f ≡ Refuse 4 → x ≡ Nothing
+none-found f n (At g) e = absurd (n g 4 e)
+none-found f n Nothing e = refl
+
+new-run : (b g r : ℕ) → NewRun g b ≢ Refuse r
+new-run b g r e = let z : _≡_ {A = ℕ} 0 1 = cc in omega arith
+
+new-large : (n g r : ℕ) → NewLarge g n ≢ Refuse r
+new-large n g r e = let z : _≡_ {A = ℕ} 0 1 = cc in omega arith
+
+in-run : (g b s r : ℕ) → InRun g b s ≢ Refuse r
+in-run g b s r e = let z : _≡_ {A = ℕ} 0 1 = cc in omega arith
+
+run-refused : (c : ℕ) (bits : List ℕ) (n : ℕ) → (planRun c bits n ≡ Refuse 4) ↔ NoGap c bits n
+unfolding planRun
+run-refused c bits n = (
+  λ e. nothing-none c bits n (none-found (λ g. NewLarge g n) (new-large n) (findPages c bits n) e),
+  λ h. ap (λ (x : Found). ifFound x (λ g. NewLarge g n)) (none-nothing c bits n h),
+)
+
+taken-bit : (p : Pool) (g s : ℕ) → slotAt p g s ≢ false → slotAt p g s ≡ true
+taken-bit p g s n = go (slotAt p g s) n
+  where
+    go : (v : Bool) → v ≢ false → v ≡ true
+    go true m = refl
+    go false m = absurd (m refl)
+
+slot-refused : (c : ℕ) (p : Pool) (b : ℕ) → (planSlot c p b ≡ Refuse 4) ↔ (NoSlot c p b × NoGap c (p .bits) (pages b))
+unfolding planSlot slotOrRun
+slot-refused c p b = (to, from)
+  where
+    to : cond (ltb (slotPage p b 0 (512 * c)) (512 * c)) (InRun (slotPage p b 0 (512 * c)) b (freeSlot (p .slots) b (slotPage p b 0 (512 * c))))
+        (ifFound (findPages c (p .bits) (pages b)) (λ f. NewRun f b)) ≡ Refuse 4
+        → NoSlot c p b × NoGap c (p .bits) (pages b)
+    to e =
+        by-cases (decLt (slotPage p b 0 (512 * c)) (512 * c))
+        (λ l. absurd (in-run (slotPage p b 0 (512 * c)) b (freeSlot (p .slots) b (slotPage p b 0 (512 * c))) 4 (sym (cond-lt (slotPage p b 0 (512 * c)) (512 * c) _ _ l) ∙ e)))
+        (λ l. let w = searched p b (512 * c) 0 in (
+          (λ g s lg k ls. taken-bit p g s (λ f. false≢true (sym (w .before g (omega arith) (omega arith)) ∙ found-run p b g s k ls f))),
+          nothing-none c (p .bits) (pages b)
+              (none-found (λ f. NewRun f b) (new-run b) (findPages c (p .bits) (pages b)) (sym (cond-nlt (slotPage p b 0 (512 * c)) (512 * c) _ _ (omega arith)) ∙ e)),
+        ))
+
+    from : NoSlot c p b × NoGap c (p .bits) (pages b)
+        → cond (ltb (slotPage p b 0 (512 * c)) (512 * c)) (InRun (slotPage p b 0 (512 * c)) b (freeSlot (p .slots) b (slotPage p b 0 (512 * c))))
+        (ifFound (findPages c (p .bits) (pages b)) (λ f. NewRun f b)) ≡ Refuse 4
+    from (s, g) =
+        let w = searched p b (512 * c) 0 in
+        by-cases (decLt (slotPage p b 0 (512 * c)) (512 * c))
+        (λ l. let f = has-free c p b (slotPage p b 0 (512 * c)) l (w .here (omega arith)) in
+        absurd (false≢true (sym (f .clear) ∙ s (slotPage p b 0 (512 * c)) (freeSlot (p .slots) b (slotPage p b 0 (512 * c))) l (f .kind) (f .slot))))
+        (λ l. cond-nlt (slotPage p b 0 (512 * c)) (512 * c) _ _ (omega arith)
+        ∙ ap (λ (x : Found). ifFound x (λ f. NewRun f b)) (none-nothing c (p .bits) (pages b) g))
+
+pub reserve-means : ReserveMeans
+unfolding attempt
+reserve-means =
+    record {
+      served = λ c p h n e. gains c p h (plan c p n) (plan-ok c p (h .whole) n) e;
+      refused = λ c p n r e. kept p (plan c p n) r e;
+      lowest = lowest-slot;
+      no-slot = slot-refused;
+      no-run = run-refused;
+    }
