@@ -237,12 +237,6 @@ fn mixed_block(
     }
 }
 
-fn wide(x: u32) -> u64
-    ensures { λ r. ⌜ r ≡ x ⌝ }
-{
-    x as u64
-}
-
 // The 64 pages of page-bit word i, between runs, where the word is 0 and no chunk begins: all are free, with no slot bit.
 fn free_block(bits: &[u64], words: &[u32], slots: &[u64], i: usize) -> bool
     requires { ⌜ (i < 128) × (i % 8 ≡ 0 → ⊥) × (getD (now bits) i 0 ≡ 0) × (64 * i + 64 ≤ length (now words)) × (512 * i + 512 ≤ length (now slots)) ⌝ }
@@ -253,7 +247,7 @@ fn free_block(bits: &[u64], words: &[u32], slots: &[u64], i: usize) -> bool
     while p < 64 {
         let g = 64 * i + p;
         let x = any_slot(slots, g);
-        let w = wide(words[g]);
+        let w = widths::wide32(words[g]);
         acc = acc | (x | w);
         p += 1;
     }

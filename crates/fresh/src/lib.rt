@@ -17,12 +17,6 @@ fn each_of(m: usize, v: u32, i: usize) -> u32
     0
 }
 
-fn wide(x: u32) -> u64
-    ensures { λ r. ⌜ r ≡ x ⌝ }
-{
-    x as u64
-}
-
 // Every m-th word becomes v, all others 0.
 fn fill64(words: &mut [u64], m: usize, v: u32)
     requires { ⌜ 0 < m ⌝ }
@@ -30,7 +24,7 @@ fn fill64(words: &mut [u64], m: usize, v: u32)
 {
     let mut i = 0;
     while i < words.len() {
-        words[i] = wide(each_of(m, v, i));
+        words[i] = widths::wide32(each_of(m, v, i));
         i += 1;
     }
 }

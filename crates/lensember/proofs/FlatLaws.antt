@@ -6,7 +6,6 @@ use Rattle.reserve.specs.declared.Given.{Given}
 use Rattle.reserve.specs.declared.Reserved.{Reserved}
 use Rattle.release.specs.declared.Sized.{Sized}
 use Rattle.lensember.specs.declared.FlatReserved.{FlatReserved}
-use Rattle.lensember.specs.declared.FlatSized.{FlatSized}
 use Rattle.lensember.specs.Flat.{flat, flatReserved, flatSized, reservedOf}
 
 -- by the kind, as it was matched

@@ -1,7 +1,6 @@
 -- Answers as plain structs: the kind of a reserve's answer is a number, and what does not apply is 0. Assumes nothing.
 use Prim.Native.Nat.{ℕ}
 use Rattle.records.specs.Calls.{Left, leaves}
-use Rattle.reserve.specs.declared.SlotAt.{SlotAt}
 use Rattle.reserve.specs.declared.Given.{Given}
 use Rattle.reserve.specs.declared.Given.the-variants.{Slot, Run, None}
 use Rattle.reserve.specs.declared.Reserved.{Reserved}

@@ -1,23 +1,22 @@
 -- What was found at a place is there, and how it is given back. Assumes nothing.
 use mathlib.Core.Path.{_≡_, refl, sym, ap, ap₂, _∙_, subst}
-use mathlib.Core.Logic.{_≢_, by-cases}
+use mathlib.Core.Logic.{_≢_}
 use mathlib.Core.Bool.{Bool, true, false, cond}
-use mathlib.Core.List.{List, [], _∷_}
+use mathlib.Core.List.{List, []}
 use mathlib.Core.Option.{Option·some-injective}
 use Prim.Native.Nat.{ℕ, zero, suc, _+_, _-_, _*_, _/_, _%_, _≤_, _<_}
 use native.Mathlib.Nat.{le-refl, div-add-mod'}
 use native.Mathlib.Omega.{arith}
-use lib.Dec.{eqb, ltb}
 use lib.ListN.{length, getD, set}
-use lib.Seq.{sets, set-getD, getD-set-other}
+use lib.Seq.{sets}
 use Rattle.bitrow.specs.Row.{isSet, putBit, putBits}
 use Rattle.classes.specs.Classes.{size, slots}
-use Rattle.records.specs.Kinds.{Kind, edge, free, damaged, large, class, inner, kindOf, zeros}
-use Rattle.records.specs.Pool.{Pool, pool, isEdge, kindAt, slotAt}
+use Rattle.records.specs.Kinds.{Kind, edge, free, damaged, large, class, inner, zeros}
+use Rattle.records.specs.Pool.{Pool, pool, kindAt, slotAt}
 use Rattle.records.specs.Sound.{step, sound}
 use Rattle.records.specs.Runs.{spanOf}
 use Rattle.records.specs.Calls.{admitOf, Left, leaves}
-use Rattle.records.proofs.Flags.{eq-cases, lt-cases, le-cases}
+use Rattle.records.proofs.Flags.{eq-cases, lt-cases}
 use Rattle.records.proofs.KindLaws.{length-zeros, getD-zeros}
 use Rattle.records.proofs.WalkLaws.{sound-walks}
 use Rattle.records.proofs.RunLaws.{walk-run}
@@ -29,7 +28,7 @@ use Rattle.blocks.proofs.StoreLaws.{first-stored}
 use Rattle.release.specs.declared.Spot.{Spot}
 use Rattle.release.specs.declared.Sized.{Sized}
 use Rattle.release.specs.declared.Spot.the-variants.{Nowhere, Run, Slot}
-use Rattle.release.specs.Release.{isInner, firstPage, slotSpot, spotIn, spotFrom, spot, giveBack, released, give, releaseOf, sized, sizeAt, sizeOf}
+use Rattle.release.specs.Release.{isInner, firstPage, slotSpot, spotIn, spot, giveBack, released, give, releaseOf, sized, sizeAt, sizeOf}
 
 -- ---- what was found
 

@@ -1,12 +1,12 @@
 -- What release and block size do to sound records. Assumes nothing.
-use mathlib.Core.Path.{_≡_, refl, sym, ap, ap₂, _∙_, subst}
-use mathlib.Core.Bool.{Bool, true, false, cond}
-use Prim.Native.Nat.{ℕ, zero, suc, _+_, _-_, _*_, _/_, _%_, _≤_, _<_}
+use mathlib.Core.Path.{_≡_, refl, sym, ap, _∙_, subst}
+use mathlib.Core.Bool.{cond}
+use Prim.Native.Nat.{ℕ, suc, _+_, _-_, _*_, _/_, _%_, _≤_, _<_}
 use native.Mathlib.Nat.{mul-le-mul-right, mul-mod-left, mul-div-left}
 use native.Mathlib.Omega.{arith}
 use lib.Dec.{ltb}
 use Rattle.bitrow.specs.Row.{isSet}
-use Rattle.classes.specs.Classes.{size, slots, pages}
+use Rattle.classes.specs.Classes.{size, slots}
 use Rattle.classes.proofs.ClassLaws.{any-row}
 use Rattle.records.specs.Kinds.{Kind, large, class, zeros, behind}
 use Rattle.records.specs.Pool.{Pool, kindAt, slotAt}
@@ -17,10 +17,10 @@ use Rattle.blocks.specs.Stores.{Good, Loses, putRun}
 use Rattle.blocks.proofs.KeepLaws.{give-large, give-slot, run-whole}
 use Rattle.release.specs.declared.Spot.{Spot}
 use Rattle.release.specs.declared.Spot.the-variants.{Nowhere, Run, Slot}
-use Rattle.release.specs.Release.{firstPage, slotSpot, spotIn, spotFrom, spot, giveBack, released, give, sized, sizeAt}
+use Rattle.release.specs.Release.{slotSpot, spotIn, spotFrom, spot, giveBack, released, give, sized, sizeAt}
 use Rattle.release.specs.Means.{ReleaseMeans}
 use Rattle.release.proofs.SpotLaws.{in-run}
-use Rattle.release.proofs.GiveLaws.{RunAt, SlotAt, There, there}
+use Rattle.release.proofs.GiveLaws.{There, there}
 
 -- ---- the block that goes
 

@@ -1,20 +1,18 @@
 -- What starts at a place, by the word of the page that it lies in. Assumes nothing.
 use mathlib.Core.Path.{_≡_, refl, sym, ap, ap₂, _∙_, subst}
-use mathlib.Core.Logic.{_≢_, _⊎_, inl, inr, ⊎-elim, by-cases}
-use mathlib.Core.Bool.{Bool, true, false, cond, false≢true}
-use mathlib.Core.Option.{Option, none, some, Option·none-ne-some, Option·some-injective}
-use mathlib.Core.List.{List, [], _∷_}
+use mathlib.Core.Logic.{_≢_, _⊎_, ⊎-elim}
+use mathlib.Core.Bool.{Bool, true, false, cond}
+use mathlib.Core.Option.{some, Option·none-ne-some, Option·some-injective}
+use mathlib.Core.List.{List, []}
 use Prim.Native.Nat.{ℕ, zero, suc, _+_, _-_, _*_, _/_, _%_, _≤_, _<_}
-use native.Mathlib.Decide.{ℕ-discrete, decLe}
 use native.Mathlib.Omega.{arith}
 use lib.Dec.{eqb, ltb}
 use lib.ListN.{length, getD}
-use borrow.Author.Tests.{lt-ltb, le-ltb, eq-eqb, ne-eqb}
 use Rattle.bitrow.specs.Row.{isSet}
 use Rattle.classes.specs.declared.Row.{Row}
 use Rattle.classes.specs.Classes.{rowAt, size, slots}
 use Rattle.classes.proofs.ClassLaws.{row-facts}
-use Rattle.records.specs.Kinds.{Kind, edge, free, damaged, large, class, inner, zeros, behind}
+use Rattle.records.specs.Kinds.{Kind, edge, free, damaged, large, class, inner, behind}
 use Rattle.records.specs.Pool.{Pool, kindAt}
 use Rattle.records.specs.Sound.{step, sound}
 use Rattle.records.specs.Calls.{admitOf}
@@ -22,10 +20,9 @@ use Rattle.records.specs.Runs.{spanOf, InRun}
 use Rattle.records.proofs.Flags.{cond-eq, cond-ne, cond-lt, cond-nlt}
 use Rattle.records.proofs.KindLaws.{length-zeros, length-inner, getD-inner}
 use Rattle.records.proofs.WalkLaws.{walk, Home, sound-walks, walk-home}
-use Rattle.records.proofs.RunLaws.{begins-run, Whole, walk-run, class-at-low, sound-runs}
+use Rattle.records.proofs.RunLaws.{walk-run, class-at-low, sound-runs}
 use Rattle.records.proofs.WordLaws.{page-class, page-large, page-low, page-edge}
-use Rattle.records.proofs.AdmitLaws.{Admitted, admitted}
-use Rattle.release.specs.declared.Spot.{Spot}
+use Rattle.records.proofs.AdmitLaws.{admitted}
 use Rattle.release.specs.declared.Spot.the-variants.{Nowhere, Run, Slot}
 use Rattle.release.specs.Release.{isInner, firstPage, slotSpot, spotIn, spotFrom, spot}
 

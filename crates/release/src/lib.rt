@@ -22,20 +22,14 @@ pub struct Sized {
     pub size: u64,
 }
 
-fn wide(x: u16) -> usize
-    ensures { λ r. ⌜ r ≡ x ⌝ }
-{
-    x as usize
-}
-
 // Byte off of a run of class b that starts at page g.
 fn slot_spot(slots: &[u64], g: usize, b: usize, off: usize) -> Spot
     requires { ⌜ (g < 8192) × (512 * g + 512 ≤ 64 * length (now slots)) × (b < 30) ⌝ }
     ensures { λ r. ⌜ r ≡ slotSpot (now (slots .entry)) g b off ⌝ }
 {
     let row = classes::class_row(b);
-    let size = wide(row.size);
-    let count = wide(row.slots);
+    let size = widths::wide16(row.size);
+    let count = widths::wide16(row.slots);
     if off % size != 0 {
         return Spot::Nowhere(5);
     }
@@ -121,12 +115,6 @@ pub fn release(c: u64, bits: &mut [u64], words: &mut [u32], slots: &mut [u64], q
     release_sound(c, bits, words, slots, q)
 }
 
-fn wide64(x: usize) -> u64
-    ensures { λ r. ⌜ r ≡ x ⌝ }
-{
-    x as u64
-}
-
 // The size that was given to the block at the place q, on records that are sound.
 pub fn size_sound(c: u64, bits: &[u64], words: &[u32], slots: &[u64], q: u64) -> Sized
     requires { ⌜ admitOf c (pool (now bits) (now words) (now slots)) ≡ 0 ⌝ }
@@ -142,14 +130,14 @@ pub fn size_sound(c: u64, bits: &[u64], words: &[u32], slots: &[u64], q: u64) ->
         Spot::Run(g, n) => {
             return Sized {
                 refusal: 0,
-                size: 4096 * wide64(n),
+                size: 4096 * widths::wide64(n),
             };
         }
         Spot::Slot(g, b, s) => {
             let row = classes::class_row(b);
             return Sized {
                 refusal: 0,
-                size: wide64(wide(row.size)),
+                size: widths::wide64(widths::wide16(row.size)),
             };
         }
     }

@@ -1,16 +1,16 @@
 -- The answer of a reserve, and the call behind the check, as the code makes them. Assumes nothing.
-use mathlib.Core.Path.{_≡_, refl, sym, ap, ap₂, _∙_, subst}
+use mathlib.Core.Path.{_≡_, sym, ap, ap₂, _∙_, subst}
 use mathlib.Core.Logic.{_≢_}
-use Prim.Native.Nat.{ℕ, _+_, _-_, _*_, _≤_, _<_}
+use Prim.Native.Nat.{ℕ, _+_, _*_, _≤_, _<_}
 use native.Mathlib.Nat.{mul-le-mul}
 use native.Mathlib.Omega.{arith}
 use Rattle.classes.specs.declared.Row.{Row}
 use Rattle.classes.specs.Classes.{rowAt, size}
-use Rattle.classes.proofs.ClassLaws.{any-row, row-facts}
+use Rattle.classes.proofs.ClassLaws.{row-facts}
 use Rattle.records.specs.Pool.{Pool}
 use Rattle.records.specs.Calls.{admitOf, Left, leaves}
 use Rattle.records.proofs.RunLaws.{class-at-low}
-use Rattle.records.proofs.AdmitLaws.{Admitted, admitted, refused, served}
+use Rattle.records.proofs.AdmitLaws.{admitted, refused, served}
 use Rattle.reserve.specs.declared.Plan.{Plan}
 use Rattle.reserve.specs.declared.Plan.the-variants.{Refuse, InRun, NewRun, NewLarge}
 use Rattle.reserve.specs.declared.Given.the-variants.{Slot, Run}

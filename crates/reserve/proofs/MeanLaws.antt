@@ -1,19 +1,18 @@
 -- What a reserve does to sound records, and that it finds what document 01 says. Assumes nothing.
-use mathlib.Core.Path.{_≡_, refl, sym, ap, ap₂, _∙_, subst}
+use mathlib.Core.Path.{_≡_, refl, sym, ap, _∙_, subst}
 use mathlib.Core.Logic.{_≢_, _↔_, by-cases}
-use mathlib.Core.Bool.{Bool, true, false, cond, _&&_, false≢true}
+use mathlib.Core.Bool.{Bool, true, false, cond, false≢true}
 use mathlib.Core.List.{List}
-use Prim.Native.Nat.{ℕ, zero, suc, _+_, _-_, _*_, _≤_, _<_}
+use Prim.Native.Nat.{ℕ, suc, _+_, _-_, _*_, _≤_, _<_}
 use native.Mathlib.Decide.{ℕ-discrete, decLt}
 use native.Mathlib.Nat.{mul-le-mul-right}
 use native.Mathlib.Omega.{arith}
-use lib.Dec.{eqb, ltb}
+use lib.Dec.{ltb}
 use borrow.Author.Tests.{eq-eqb, lt-ltb}
 use Rattle.bitrow.specs.Row.{bitAt, isSet}
-use Rattle.bitrow.proofs.Rows.{First}
-use Rattle.classes.specs.Classes.{size, slots, pages, classFor}
+use Rattle.classes.specs.Classes.{size, slots, pages}
 use Rattle.classes.proofs.ClassLaws.{any-row, row-facts}
-use Rattle.records.specs.Kinds.{Kind, large, class, free, wordsOf, behind}
+use Rattle.records.specs.Kinds.{large, class, wordsOf, behind}
 use Rattle.records.specs.Pool.{Pool, kindAt, slotAt}
 use Rattle.records.specs.Runs.{spanOf}
 use Rattle.records.proofs.Flags.{and-made, cond-lt, cond-nlt}
@@ -22,15 +21,14 @@ use Rattle.gaps.specs.declared.Found.{Found}
 use Rattle.gaps.specs.declared.Found.the-variants.{At, Nothing}
 use Rattle.gaps.specs.Gaps.{findPages}
 use Rattle.gaps.proofs.Answers.{nothing-none, none-nothing}
-use Rattle.blocks.specs.Blocks.{Block, runBlock}
-use Rattle.blocks.specs.Stores.{Good, Gains, putRun, putSlot}
+use Rattle.blocks.specs.Stores.{Good, Gains, putRun}
 use Rattle.blocks.proofs.KeepLaws.{put-large, put-slot, put-class}
 use Rattle.reserve.specs.declared.Plan.{Plan}
 use Rattle.reserve.specs.declared.Plan.the-variants.{Refuse, InRun, NewRun, NewLarge}
 use Rattle.reserve.specs.Reserve.{freeSlot, isRunOf, hasSlot, slotPage, ifFound, slotOrRun, planSlot, planRun, plan, perform, answer, attempt}
-use Rattle.reserve.specs.Plans.{SlotFree, PagesFree, PlanOk}
+use Rattle.reserve.specs.Plans.{PlanOk}
 use Rattle.reserve.specs.Means.{blockOf, NoSlot, NoGap, ReserveMeans}
-use Rattle.reserve.proofs.PlanLaws.{free-first, Searched, searched, has-free, plan-ok}
+use Rattle.reserve.proofs.PlanLaws.{free-first, searched, has-free, plan-ok}
 
 -- ---- what is put in
 

@@ -3,28 +3,25 @@ use mathlib.Core.Path.{_≡_, refl, sym, ap, ap₂, _∙_, subst}
 use mathlib.Core.Logic.{_≢_, by-cases}
 use mathlib.Core.Bool.{Bool, true, false, cond, _&&_, false≢true}
 use mathlib.Core.List.{List}
-use Prim.Native.Nat.{ℕ, zero, suc, _+_, _-_, _*_, _/_, _≤_, _<_}
-use native.Mathlib.Decide.{ℕ-discrete, decLt}
+use Prim.Native.Nat.{ℕ, zero, suc, _+_, _-_, _*_, _≤_, _<_}
+use native.Mathlib.Decide.{ℕ-discrete}
 use native.Mathlib.Omega.{arith}
 use lib.Dec.{eqb, ltb, leb}
-use lib.ListN.{length, getD}
-use borrow.Author.Tests.{eq-eqb, ne-eqb, eqb-true, ltb-true, ltb-false, lt-ltb}
+use lib.ListN.{getD}
+use borrow.Author.Tests.{eq-eqb, ne-eqb, eqb-true, ltb-true}
 use Rattle.bitrow.specs.Row.{bitAt, isSet, nextBit}
 use Rattle.bitrow.proofs.Rows.{First, next-first}
-use Rattle.classes.specs.Classes.{size, slots, pages, classFor}
-use Rattle.classes.proofs.ClassLaws.{any-row, row-facts, class-smallest}
-use Rattle.records.specs.Kinds.{Kind, edge, free, damaged, large, class, inner, kindOf}
-use Rattle.records.specs.Pool.{Pool, isEdge, kindAt, slotAt}
+use Rattle.classes.specs.Classes.{slots, pages, classFor}
+use Rattle.classes.proofs.ClassLaws.{row-facts, class-smallest}
+use Rattle.records.specs.Kinds.{Kind, edge, free, damaged, large, class, inner}
+use Rattle.records.specs.Pool.{Pool, kindAt, slotAt}
 use Rattle.records.specs.Sound.{sound}
-use Rattle.records.specs.Calls.{admitOf}
-use Rattle.records.proofs.Flags.{flag-eq, and-left, and-right, cond-lt, cond-nlt, cond-le, cond-nle, eq-cases, lt-cases, le-cases}
-use Rattle.records.proofs.RunLaws.{class-at-low}
+use Rattle.records.proofs.Flags.{flag-eq, and-left, and-right, cond-lt, cond-nlt, cond-le, cond-nle, lt-cases, le-cases}
 use Rattle.records.proofs.WordLaws.{page-word, page-class, page-free}
-use Rattle.records.proofs.AdmitLaws.{Admitted, admitted}
 use Rattle.gaps.specs.declared.Found.{Found}
 use Rattle.gaps.specs.declared.Found.the-variants.{At, Nothing}
 use Rattle.gaps.specs.Gaps.{findPages}
-use Rattle.gaps.proofs.Answers.{FreeRun, found-free}
+use Rattle.gaps.proofs.Answers.{found-free}
 use Rattle.reserve.specs.declared.Plan.{Plan}
 use Rattle.reserve.specs.declared.Plan.the-variants.{Refuse, InRun, NewRun, NewLarge}
 use Rattle.reserve.specs.Reserve.{freeSlot, isRunOf, hasSlot, slotPage, ifFound, slotOrRun, planSlot, planRun, pagesFor, plan}

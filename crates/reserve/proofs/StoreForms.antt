@@ -1,6 +1,6 @@
 -- The stores of a reserve, as the code makes them. Assumes nothing.
 use mathlib.Core.Path.{_≡_, refl, sym, ap, ap₂, _∙_, subst}
-use mathlib.Core.List.{List, [], _∷_}
+use mathlib.Core.List.{List}
 use Prim.Native.Nat.{ℕ, zero, suc, _+_, _-_, _*_, _≤_, _<_}
 use native.Mathlib.Omega.{arith}
 use lib.ListN.{length, getD, set, length-set}
@@ -8,14 +8,14 @@ use lib.Seq.{sets}
 use Rattle.bitrow.specs.Row.{putBit, putBits}
 use Rattle.classes.specs.Classes.{pages, slots}
 use Rattle.classes.proofs.ClassLaws.{any-row, row-facts}
-use Rattle.records.specs.Kinds.{large, class, zeros, behind, innerWords, wordsOf}
-use Rattle.records.specs.Pool.{Pool, pool, kindAt}
+use Rattle.records.specs.Kinds.{large, class, behind, innerWords, wordsOf}
+use Rattle.records.specs.Pool.{Pool, pool}
 use Rattle.records.proofs.KindLaws.{length-zeros, length-inner}
 use Rattle.records.proofs.WordLaws.{page-word}
 use Rattle.blocks.specs.Stores.{putRun, putSlot}
 use Rattle.blocks.proofs.StoreLaws.{first-stored}
 use Rattle.reserve.specs.declared.Plan.{Plan}
-use Rattle.reserve.specs.declared.Plan.the-variants.{Refuse, InRun, NewRun, NewLarge}
+use Rattle.reserve.specs.declared.Plan.the-variants.{InRun, NewRun, NewLarge}
 use Rattle.reserve.specs.Reserve.{perform}
 use Rattle.reserve.specs.Plans.{SlotFree, PagesFree, PlanOk}
 

@@ -1,7 +1,7 @@
 -- What a plan may rely on: the slot is free, the pages are free. Assumes nothing.
 use mathlib.Core.Path.{_≡_}
 use mathlib.Core.Bool.{false}
-use Prim.Native.Nat.{ℕ, _+_, _-_, _*_, _≤_, _<_}
+use Prim.Native.Nat.{ℕ, _+_, _*_, _≤_, _<_}
 use Rattle.classes.specs.Classes.{slots, pages}
 use Rattle.records.specs.Kinds.{free, class}
 use Rattle.records.specs.Pool.{Pool, kindAt, slotAt}

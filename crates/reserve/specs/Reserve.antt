@@ -1,5 +1,5 @@
 -- Reserve (document 01, "Taking and giving back"): what is looked for, what is stored, what is answered. Assumes nothing.
-use mathlib.Core.Bool.{Bool, true, false, cond, _&&_}
+use mathlib.Core.Bool.{Bool, false, cond, _&&_}
 use mathlib.Core.List.{List}
 use Prim.Native.Nat.{ℕ, zero, suc, _+_, _-_, _*_, _/_}
 use lib.Dec.{eqb, ltb, leb}
@@ -14,8 +14,6 @@ use Rattle.gaps.specs.Gaps.{findPages}
 use Rattle.blocks.specs.Stores.{putRun, putSlot}
 use Rattle.reserve.specs.declared.Plan.{Plan}
 use Rattle.reserve.specs.declared.Plan.the-variants.{Refuse, InRun, NewRun, NewLarge}
-use Rattle.reserve.specs.declared.SlotAt.{SlotAt}
-use Rattle.reserve.specs.declared.Given.{Given}
 use Rattle.reserve.specs.declared.Given.the-variants.{Slot, Run, None}
 use Rattle.reserve.specs.declared.Reserved.{Reserved}
 

@@ -44,12 +44,6 @@ pub struct Reserved {
     pub kind: Given,
 }
 
-fn wide(x: u16) -> usize
-    ensures { λ r. ⌜ r ≡ x ⌝ }
-{
-    x as usize
-}
-
 // The number of the lowest free slot of the run of class b at page g, which has n slots; n where none is free.
 fn free_slot(slots: &[u64], g: usize, b: usize, n: usize) -> usize
     requires { ⌜ (g < 8192) × (512 * g + 512 ≤ 64 * length (now slots)) × (n ≡ slotsOf (class b)) × (n ≤ 512) ⌝ }
@@ -92,13 +86,13 @@ fn plan_slot(c: u64, bits: &[u64], words: &[u32], slots: &[u64], b: usize) -> Pl
     ensures { λ r. ⌜ r ≡ planSlot c (pool (now (bits .entry)) (now (words .entry)) (now (slots .entry))) b ⌝ }
 {
     let row = classes::class_row(b);
-    let n = wide(row.slots);
+    let n = widths::wide16(row.slots);
     let g = slot_page(c, bits, words, slots, b, n);
     if g < 512 * (c as usize) {
         let s = free_slot(slots, g, b, n);
         return Plan::InRun(g, b, s);
     }
-    let m = wide(row.pages);
+    let m = widths::wide16(row.pages);
     match gaps::find_pages(c as usize, bits, m) {
         gaps::Found::At(f) => {
             return Plan::NewRun(f, b);
@@ -159,7 +153,7 @@ fn new_run(bits: &mut [u64], words: &mut [u32], slots: &mut [u64], g: usize, b: 
     ensures { λ _. ⌜ pool (now (bits .exit)) (now (words .exit)) (now (slots .exit)) ≡ perform (pool (now (bits .entry)) (now (words .entry)) (now (slots .entry))) (Plan.NewRun g b) ⌝ }
 {
     let row = classes::class_row(b);
-    let n = wide(row.pages);
+    let n = widths::wide16(row.pages);
     bitrow::put_bits(bits, g, n, true);
     class_words(words, g, b, n);
     bitrow::put_bit(slots, 512 * g, true);
@@ -198,23 +192,17 @@ fn perform_plan(c: u64, bits: &mut [u64], words: &mut [u32], slots: &mut [u64], 
     }
 }
 
-fn wide64(x: usize) -> u64
-    ensures { λ r. ⌜ r ≡ x ⌝ }
-{
-    x as u64
-}
-
 // Slot s of the run of class b at page g.
 fn slot_given(g: usize, b: usize, s: usize) -> Reserved
     requires { ⌜ (g < 8192) × (b < 30) × (s < 512) ⌝ }
     ensures { λ r. ⌜ r ≡ slotGiven g b s ⌝ }
 {
     let row = classes::class_row(b);
-    let size = wide64(wide(row.size));
-    let first = wide64(g);
-    let number = wide64(s);
+    let size = widths::wide64(widths::wide16(row.size));
+    let first = widths::wide64(g);
+    let number = widths::wide64(s);
     let slot = SlotAt {
-        class: wide64(b),
+        class: widths::wide64(b),
         first: first,
         number: number,
     };
@@ -247,8 +235,8 @@ fn answer_of(x: Plan) -> Reserved
             return slot_given(g, b, 0);
         }
         Plan::NewLarge(g, n) => {
-            let pages = wide64(n);
-            let first = wide64(g);
+            let pages = widths::wide64(n);
+            let first = widths::wide64(g);
             return Reserved {
                 refusal: 0,
                 place: 4096 * first,

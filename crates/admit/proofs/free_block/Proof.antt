@@ -25,14 +25,14 @@ add-g c = search needs
 any-slot-requires : tie.Need-any-slot-requires Inv-loop μ-loop
 any-slot-requires c κs = search needs
 
-mul-wide : tie.Need-mul-wide Inv-loop μ-loop
-mul-wide c = search needs
+mul-wide32 : tie.Need-mul-wide32 Inv-loop μ-loop
+mul-wide32 c = search needs
 
-shared-slice-read-wide : tie.Need-shared-slice-read-wide Inv-loop μ-loop
-shared-slice-read-wide c = search needs
+shared-slice-read-wide32 : tie.Need-shared-slice-read-wide32 Inv-loop μ-loop
+shared-slice-read-wide32 c = search needs
 
-wide-requires : tie.Need-wide-requires Inv-loop μ-loop
-wide-requires c κs = search needs
+wide32-requires : tie.Need-wide32-requires Inv-loop μ-loop
+wide32-requires c κs = search needs
 
 add-p : tie.Need-add-p Inv-loop μ-loop
 add-p c = search needs
@@ -42,7 +42,7 @@ loop-less c = search needs
 
 loop-again : tie.Need-loop-again Inv-loop μ-loop
 loop-again c =
-    (omega arith, freed-on _ _ _ (omega arith) (c .before .before .before .before .before .before .before .before .pre .1) (c .before .before .before .before .before .before .before .before .pre .2) (λ j. c .before .before .before .before .before .shared-slice-known3 .given j .fits) _ (c .before .before .any-slot .result) _ (c .before .before .before .before .loop .inv .1) (c .before .before .any-slot .ensures) (c .wide .ensures))
+    (omega arith, freed-on _ _ _ (omega arith) (c .before .before .before .before .before .before .before .before .pre .1) (c .before .before .before .before .before .before .before .before .pre .2) (λ j. c .before .before .before .before .before .shared-slice-known3 .given j .fits) _ (c .before .before .any-slot .result) _ (c .before .before .before .before .loop .inv .1) (c .before .before .any-slot .ensures) (c .wide32 .ensures))
 
 returns : tie.Need-returns Inv-loop μ-loop
 returns c = freed-done (c .before .loop .inv .1) (omega arith)
@@ -57,9 +57,9 @@ free-block-spec =
     mul-g
     add-g
     any-slot-requires
-    mul-wide
-    shared-slice-read-wide
-    wide-requires
+    mul-wide32
+    shared-slice-read-wide32
+    wide32-requires
     add-p
     loop-less
     loop-again

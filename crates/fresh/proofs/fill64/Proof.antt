@@ -21,8 +21,8 @@ loop-holds c = (omega arith, filled-none _ _ _)
 each-of-requires : tie.Need-each-of-requires Inv-loop μ-loop
 each-of-requires c κs = search needs
 
-wide-requires : tie.Need-wide-requires Inv-loop μ-loop
-wide-requires c κs = search needs
+wide32-requires : tie.Need-wide32-requires Inv-loop μ-loop
+wide32-requires c κs = search needs
 
 mul-words : tie.Need-mul-words Inv-loop μ-loop
 mul-words c = search needs
@@ -37,7 +37,7 @@ loop-less : tie.Need-loop-less Inv-loop μ-loop
 loop-less c = search needs
 
 loop-again : tie.Need-loop-again Inv-loop μ-loop
-loop-again c = (omega arith, filled-more _ (c .before .before .before .loop .inv .1) (omega arith) (c .wide .ensures ∙ c .before .each-of .ensures))
+loop-again c = (omega arith, filled-more _ (c .before .before .before .loop .inv .1) (omega arith) (c .wide32 .ensures ∙ c .before .each-of .ensures))
 
 same-length : tie.Need-same-length Inv-loop μ-loop
 same-length c = c .before .loop .inv .1 .long
@@ -53,7 +53,7 @@ fill64-spec =
     μ-loop
     loop-holds
     each-of-requires
-    wide-requires
+    wide32-requires
     mul-words
     slice-write-words
     add-i

@@ -38,14 +38,14 @@ enum-known-g-2 c = search needs
 class-row-requires : tie.Need-class-row-requires
 class-row-requires c κs = let r : SlotAt _ _ _ _ _ _ = found _ _ _ (c .before .before .before .spot-at .ensures) (c .before .g2 .given .1) in class-at-low _ _ _ (r .kind)
 
-wide-requires : tie.Need-wide-requires
-wide-requires c κs = search needs
+wide16-requires : tie.Need-wide16-requires
+wide16-requires c κs = search needs
 
 wide64-requires-2 : tie.Need-wide64-requires-2
 wide64-requires-2 c κs = search needs
 
 returns-3 : tie.Need-returns-3
-returns-3 c = size-as (c .before .before .before .before .g2 .given .1) (c .before .before .before .before .before .before .spot-at .ensures) (ap (sized 0) (c .wide642 .ensures ∙ c .before .wide .ensures ∙ ap (λ (r : Row). r .size) (c .before .before .class-row .ensures)))
+returns-3 c = size-as (c .before .before .before .before .g2 .given .1) (c .before .before .before .before .before .before .spot-at .ensures) (ap (sized 0) (c .wide642 .ensures ∙ c .before .wide16 .ensures ∙ ap (λ (r : Row). r .size) (c .before .before .class-row .ensures)))
 
 pub size-sound-spec : {M : Type 1} → statement M
 size-sound-spec =
@@ -60,6 +60,6 @@ size-sound-spec =
     returns-2
     enum-known-g-2
     class-row-requires
-    wide-requires
+    wide16-requires
     wide64-requires-2
     returns-3)

@@ -10,14 +10,14 @@ use Rattle.reserve.proofs.new_run.Tie as tie
 class-row-requires : tie.Need-class-row-requires
 class-row-requires c κs = search needs
 
-wide-requires : tie.Need-wide-requires
-wide-requires c κs = search needs
+wide16-requires : tie.Need-wide16-requires
+wide16-requires c κs = search needs
 
 put-bits-requires : tie.Need-put-bits-requires
-put-bits-requires c κs = let e = (c .before .wide .ensures ∙ ap (λ (r : Row). r .pages) (c .before .before .class-row .ensures)) in (omega arith, omega arith)
+put-bits-requires c κs = let e = (c .before .wide16 .ensures ∙ ap (λ (r : Row). r .pages) (c .before .before .class-row .ensures)) in (omega arith, omega arith)
 
 class-words-requires : tie.Need-class-words-requires
-class-words-requires c κs = let e = (c .before .before .before .before .before .wide .ensures ∙ ap (λ (r : Row). r .pages) (c .before .before .before .before .before .before .class-row .ensures)) in (omega arith, omega arith, c .before .before .before .before .before .before .before .before .before .before .pre .0, e)
+class-words-requires c κs = let e = (c .before .before .before .before .before .wide16 .ensures ∙ ap (λ (r : Row). r .pages) (c .before .before .before .before .before .before .class-row .ensures)) in (omega arith, omega arith, c .before .before .before .before .before .before .before .before .before .before .pre .0, e)
 
 mul-put-bit : tie.Need-mul-put-bit
 mul-put-bit c = search needs
@@ -35,14 +35,14 @@ same-length-3 : tie.Need-same-length-3
 same-length-3 c = search needs
 
 returns : tie.Need-returns
-returns c = new-run-is _ _ _ _ (c .before .before .before .before .before .before .before .before .before .before .before .before .before .before .before .before .before .pre .0) (c .before .before .before .before .before .before .before .before .before .before .before .before .wide .ensures ∙ ap (λ (r : Row). r .pages) (c .before .before .before .before .before .before .before .before .before .before .before .before .before .class-row .ensures)) _ _ _ (c .before .before .before .before .before .before .before .before .before .before .put-bits .ensures) (c .before .before .before .before .before .before .class-words .ensures) (c .before .before .put-bit .ensures)
+returns c = new-run-is _ _ _ _ (c .before .before .before .before .before .before .before .before .before .before .before .before .before .before .before .before .before .pre .0) (c .before .before .before .before .before .before .before .before .before .before .before .before .wide16 .ensures ∙ ap (λ (r : Row). r .pages) (c .before .before .before .before .before .before .before .before .before .before .before .before .before .class-row .ensures)) _ _ _ (c .before .before .before .before .before .before .before .before .before .before .put-bits .ensures) (c .before .before .before .before .before .before .class-words .ensures) (c .before .before .put-bit .ensures)
 
 pub new-run-spec : {M : Type 1} → statement M
 new-run-spec =
     tie.close
     (tie.spec
     class-row-requires
-    wide-requires
+    wide16-requires
     put-bits-requires
     class-words-requires
     mul-put-bit

@@ -8,8 +8,8 @@ use Rattle.reserve.proofs.slot_given.Tie as tie
 class-row-requires : tie.Need-class-row-requires
 class-row-requires c κs = search needs
 
-wide-requires : tie.Need-wide-requires
-wide-requires c κs = search needs
+wide16-requires : tie.Need-wide16-requires
+wide16-requires c κs = search needs
 
 wide64-requires : tie.Need-wide64-requires
 wide64-requires c κs = search needs
@@ -27,20 +27,20 @@ mul-t10 : tie.Need-mul-t10
 mul-t10 c = search needs
 
 mul-t11 : tie.Need-mul-t11
-mul-t11 c = let m = slot-room (c .before .before .before .before .before .before .pre .1) (c .before .before .before .before .before .before .pre .2) (c .before .wide643 .ensures) (size-read _ (c .before .before .before .before .before .class-row .ensures) (c .before .before .before .before .wide .ensures) (c .before .before .before .wide64 .ensures)) in record { fits = omega arith }
+mul-t11 c = let m = slot-room (c .before .before .before .before .before .before .pre .1) (c .before .before .before .before .before .before .pre .2) (c .before .wide643 .ensures) (size-read _ (c .before .before .before .before .before .class-row .ensures) (c .before .before .before .before .wide16 .ensures) (c .before .before .before .wide64 .ensures)) in record { fits = omega arith }
 
 add-t12 : tie.Need-add-t12
-add-t12 c = let m = slot-room (c .before .before .before .before .before .before .pre .1) (c .before .before .before .before .before .before .pre .2) (c .before .wide643 .ensures) (size-read _ (c .before .before .before .before .before .class-row .ensures) (c .before .before .before .before .wide .ensures) (c .before .before .before .wide64 .ensures)) in let k = c .before .before .wide642 .ensures in record { fits = omega arith }
+add-t12 c = let m = slot-room (c .before .before .before .before .before .before .pre .1) (c .before .before .before .before .before .before .pre .2) (c .before .wide643 .ensures) (size-read _ (c .before .before .before .before .before .class-row .ensures) (c .before .before .before .before .wide16 .ensures) (c .before .before .before .wide64 .ensures)) in let k = c .before .before .wide642 .ensures in record { fits = omega arith }
 
 returns : tie.Need-returns
-returns c = slot-is (c .wide644 .ensures) (c .before .before .wide642 .ensures) (c .before .wide643 .ensures) (size-read _ (c .before .before .before .before .before .class-row .ensures) (c .before .before .before .before .wide .ensures) (c .before .before .before .wide64 .ensures))
+returns c = slot-is (c .wide644 .ensures) (c .before .before .wide642 .ensures) (c .before .wide643 .ensures) (size-read _ (c .before .before .before .before .before .class-row .ensures) (c .before .before .before .before .wide16 .ensures) (c .before .before .before .wide64 .ensures))
 
 pub slot-given-spec : {M : Type 1} → statement M
 slot-given-spec =
     tie.close
     (tie.spec
     class-row-requires
-    wide-requires
+    wide16-requires
     wide64-requires
     wide64-requires-2
     wide64-requires-3
