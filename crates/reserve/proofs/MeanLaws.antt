@@ -72,15 +72,28 @@ found-run p b g s k l e =
     and-made (isRunOf b (kindAt p g)) (ltb (freeSlot (p .slots) b g) (slots b)) (ap (isRunOf b) k ∙ eq-eqb b b refl)
     (lt-ltb (freeSlot (p .slots) b g) (slots b) (omega arith))
 
-slot-plan : (c : ℕ) (p : Pool) (b g s : ℕ) → planSlot c p b ≡ InRun g b s → (g ≡ slotPage p b 0 (512 * c)) × (s ≡ freeSlot (p .slots) b g) × (g < 512 * c)
+-- the first page at which a run of class b with a free slot starts
+abbrev firstRun : ℕ → Pool → ℕ → ℕ
+firstRun c p b = slotPage p b 0 (512 * c)
+
+-- where there is one, the plan is its lowest free slot
+plan-in : (c : ℕ) (p : Pool) (b : ℕ) → firstRun c p b < 512 * c → planSlot c p b ≡ InRun (firstRun c p b) b (freeSlot (p .slots) b (firstRun c p b))
 unfolding planSlot slotOrRun
+plan-in c p b l = cond-lt (firstRun c p b) (512 * c) _ _ l
+
+-- else a new run
+plan-new : (c : ℕ) (p : Pool) (b : ℕ) → 512 * c ≤ firstRun c p b → planSlot c p b ≡ ifFound (findPages c (p .bits) (pages b)) (λ f. NewRun f b)
+unfolding planSlot slotOrRun
+plan-new c p b l = cond-nlt (firstRun c p b) (512 * c) _ _ l
+
+slot-plan : (c : ℕ) (p : Pool) (b g s : ℕ) → planSlot c p b ≡ InRun g b s → (g ≡ firstRun c p b) × (s ≡ freeSlot (p .slots) b g) × (g < 512 * c)
 slot-plan c p b g s e =
-    by-cases (decLt (slotPage p b 0 (512 * c)) (512 * c))
-    (λ l. let f : InRun (slotPage p b 0 (512 * c)) b (freeSlot (p .slots) b (slotPage p b 0 (512 * c))) ≡ InRun g b s = sym (cond-lt (slotPage p b 0 (512 * c)) (512 * c) _ _ l) ∙ e in
-    let x : slotPage p b 0 (512 * c) ≡ g = cc in
-    let y : freeSlot (p .slots) b (slotPage p b 0 (512 * c)) ≡ s = cc in
+    by-cases (decLt (firstRun c p b) (512 * c))
+    (λ l. let f = sym (plan-in c p b l) ∙ e in
+    let x : firstRun c p b ≡ g = cc in
+    let y : freeSlot (p .slots) b (firstRun c p b) ≡ s = cc in
     (sym x, sym y ∙ ap (freeSlot (p .slots) b) x, omega arith))
-    (λ l. absurd (no (findPages c (p .bits) (pages b)) (sym (cond-nlt (slotPage p b 0 (512 * c)) (512 * c) _ _ (omega arith)) ∙ e)))
+    (λ l. absurd (no (findPages c (p .bits) (pages b)) (sym (plan-new c p b (omega arith)) ∙ e)))
   where
     no : (x : Found) → ifFound x (λ f. NewRun f b) ≡ InRun g b s → ⊥
     no (At f) q = let z : _≡_ {A = ℕ} 0 1 = cc in omega arith
@@ -92,8 +105,8 @@ unfolding behind
 lowest-slot c p h b g s e f t lf k lt free′ =
     let (x, y, z) = slot-plan c p b g s e in
     let w = searched p b (512 * c) 0 in
-    let low : slotPage p b 0 (512 * c) ≤ f =
-    by-cases (decLt f (slotPage p b 0 (512 * c)))
+    let low : firstRun c p b ≤ f =
+    by-cases (decLt f (firstRun c p b))
     (λ q. absurd (false≢true (sym (w .before f (omega arith) q) ∙ found-run p b f t k lt free′))) (λ q. omega arith) in
     let own = has-free c p b g z (subst (λ (i : ℕ). hasSlot p b i ≡ true) (sym x) (w .here (omega arith))) in
     by-cases (ℕ-discrete f g) (λ q. same q y (free-above p b f t lt free′)) (λ q. apart q z low x (own .kind) (own .slot) y)
@@ -105,7 +118,7 @@ lowest-slot c p h b g s e f t lf k lt free′ =
         let m = mul-le-mul-right {m = s} {n = t} (size b) (omega arith) in omega arith
 
     -- in a run behind it
-    apart : f ≢ g → g < 512 * c → slotPage p b 0 (512 * c) ≤ f → g ≡ slotPage p b 0 (512 * c) → kindAt p g ≡ class b → freeSlot (p .slots) b g < slots b
+    apart : f ≢ g → g < 512 * c → firstRun c p b ≤ f → g ≡ firstRun c p b → kindAt p g ≡ class b → freeSlot (p .slots) b g < slots b
         → s ≡ freeSlot (p .slots) b g → 4096 * g + s * size b ≤ 4096 * f + t * size b
     apart q z low x kg sl y =
         let span : spanOf (kindAt p g) ≡ suc (pages b - 1) = ap spanOf kg in
@@ -149,31 +162,25 @@ taken-bit p g s n = go (slotAt p g s) n
     go false m = absurd (m refl)
 
 slot-refused : (c : ℕ) (p : Pool) (b : ℕ) → (planSlot c p b ≡ Refuse 4) ↔ (NoSlot c p b × NoGap c (p .bits) (pages b))
-unfolding planSlot slotOrRun
 slot-refused c p b = (to, from)
   where
-    to : cond (ltb (slotPage p b 0 (512 * c)) (512 * c)) (InRun (slotPage p b 0 (512 * c)) b (freeSlot (p .slots) b (slotPage p b 0 (512 * c))))
-        (ifFound (findPages c (p .bits) (pages b)) (λ f. NewRun f b)) ≡ Refuse 4
-        → NoSlot c p b × NoGap c (p .bits) (pages b)
+    to : planSlot c p b ≡ Refuse 4 → NoSlot c p b × NoGap c (p .bits) (pages b)
     to e =
-        by-cases (decLt (slotPage p b 0 (512 * c)) (512 * c))
-        (λ l. absurd (in-run (slotPage p b 0 (512 * c)) b (freeSlot (p .slots) b (slotPage p b 0 (512 * c))) 4 (sym (cond-lt (slotPage p b 0 (512 * c)) (512 * c) _ _ l) ∙ e)))
-        (λ l. let w = searched p b (512 * c) 0 in (
+        let w = searched p b (512 * c) 0 in
+        by-cases (decLt (firstRun c p b) (512 * c)) (λ l. absurd (in-run _ _ _ 4 (sym (plan-in c p b l) ∙ e)))
+        (λ l. (
           (λ g s lg k ls. taken-bit p g s (λ f. false≢true (sym (w .before g (omega arith) (omega arith)) ∙ found-run p b g s k ls f))),
           nothing-none c (p .bits) (pages b)
-              (none-found (λ f. NewRun f b) (new-run b) (findPages c (p .bits) (pages b)) (sym (cond-nlt (slotPage p b 0 (512 * c)) (512 * c) _ _ (omega arith)) ∙ e)),
+              (none-found (λ f. NewRun f b) (new-run b) (findPages c (p .bits) (pages b)) (sym (plan-new c p b (omega arith)) ∙ e)),
         ))
 
-    from : NoSlot c p b × NoGap c (p .bits) (pages b)
-        → cond (ltb (slotPage p b 0 (512 * c)) (512 * c)) (InRun (slotPage p b 0 (512 * c)) b (freeSlot (p .slots) b (slotPage p b 0 (512 * c))))
-        (ifFound (findPages c (p .bits) (pages b)) (λ f. NewRun f b)) ≡ Refuse 4
+    from : NoSlot c p b × NoGap c (p .bits) (pages b) → planSlot c p b ≡ Refuse 4
     from (s, g) =
         let w = searched p b (512 * c) 0 in
-        by-cases (decLt (slotPage p b 0 (512 * c)) (512 * c))
-        (λ l. let f = has-free c p b (slotPage p b 0 (512 * c)) l (w .here (omega arith)) in
-        absurd (false≢true (sym (f .clear) ∙ s (slotPage p b 0 (512 * c)) (freeSlot (p .slots) b (slotPage p b 0 (512 * c))) l (f .kind) (f .slot))))
-        (λ l. cond-nlt (slotPage p b 0 (512 * c)) (512 * c) _ _ (omega arith)
-        ∙ ap (λ (x : Found). ifFound x (λ f. NewRun f b)) (none-nothing c (p .bits) (pages b) g))
+        by-cases (decLt (firstRun c p b) (512 * c))
+        (λ l. let f = has-free c p b (firstRun c p b) l (w .here (omega arith)) in
+        absurd (false≢true (sym (f .clear) ∙ s (firstRun c p b) (freeSlot (p .slots) b (firstRun c p b)) l (f .kind) (f .slot))))
+        (λ l. plan-new c p b (omega arith) ∙ ap (λ (x : Found). ifFound x (λ f. NewRun f b)) (none-nothing c (p .bits) (pages b) g))
 
 pub reserve-means : ReserveMeans
 unfolding attempt
