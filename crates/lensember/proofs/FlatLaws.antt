@@ -4,9 +4,8 @@ use Rattle.records.specs.Pool.{Pool}
 use Rattle.records.specs.Calls.{Left, leaves}
 use Rattle.reserve.specs.declared.Given.{Given}
 use Rattle.reserve.specs.declared.Reserved.{Reserved}
-use Rattle.release.specs.declared.Sized.{Sized}
 use Rattle.lensember.specs.declared.FlatReserved.{FlatReserved}
-use Rattle.lensember.specs.Flat.{flat, flatReserved, flatSized, reservedOf}
+use Rattle.lensember.specs.Flat.{flat, flatReserved, reservedOf}
 
 -- by the kind, as it was matched
 pub flat-as : (r : Reserved) {k : Given} → r .kind ≡ k → flat (r .refusal) (r .place) (r .size) k ≡ flatReserved r
@@ -16,7 +15,3 @@ flat-as r e = ap (flat (r .refusal) (r .place) (r .size)) (sym e)
 pub reserved-as : {r : Reserved} {p : Pool} {y : Left Reserved} (x : FlatReserved) → x ≡ flatReserved r → leaves r p ≡ y → leaves x p ≡ reservedOf y
 unfolding reservedOf
 reserved-as {r} {p} x e f = ap (λ (a : FlatReserved). leaves a p) e ∙ ap reservedOf f
-
-pub sized-as : {r y : Sized} → r ≡ y → record { refusal = r .refusal; size = r .size } ≡ flatSized y
-unfolding flatSized
-sized-as e = ap flatSized e

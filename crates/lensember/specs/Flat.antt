@@ -4,9 +4,7 @@ use Rattle.records.specs.Calls.{Left, leaves}
 use Rattle.reserve.specs.declared.Given.{Given}
 use Rattle.reserve.specs.declared.Given.the-variants.{Slot, Run, None}
 use Rattle.reserve.specs.declared.Reserved.{Reserved}
-use Rattle.release.specs.declared.Sized.{Sized}
 use Rattle.lensember.specs.declared.FlatReserved.{FlatReserved}
-use Rattle.lensember.specs.declared.FlatSized.{FlatSized}
 
 abbrev pub flat : ℕ → ℕ → ℕ → Given → FlatReserved
 flat r p z (Slot s) =
@@ -16,9 +14,6 @@ flat r p z None = record { refusal = r; place = p; size = z; kind = 0; class = 0
 
 unfoldable pub flatReserved : Reserved → FlatReserved
 flatReserved r = flat (r .refusal) (r .place) (r .size) (r .kind)
-
-unfoldable pub flatSized : Sized → FlatSized
-flatSized r = record { refusal = r .refusal; size = r .size }
 
 -- what a reserve leaves, with its answer so
 unfoldable pub reservedOf : Left Reserved → Left FlatReserved

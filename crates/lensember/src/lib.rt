@@ -4,7 +4,7 @@ ghost use Rattle.records.specs.Pool.{pool};
 ghost use Rattle.records.specs.Calls.{admitOf, leaves, freshOf};
 ghost use Rattle.reserve.specs.Reserve.{reserveOf};
 ghost use Rattle.release.specs.Release.{releaseOf, sizeOf};
-ghost use Rattle.lensember.specs.Flat.{flatReserved, flatSized, reservedOf};
+ghost use Rattle.lensember.specs.Flat.{flatReserved, reservedOf};
 
 // struct lensember_reserved: kind is 0 for nothing, 1 for a slot, 2 for a page run; what does not apply is 0.
 #[repr(C)]
@@ -17,13 +17,6 @@ pub struct FlatReserved {
     pub first: u64,
     pub number: u64,
     pub pages: u64,
-}
-
-// struct lensember_sized
-#[repr(C)]
-pub struct FlatSized {
-    pub refusal: u64,
-    pub size: u64,
 }
 
 // An answer with its kind as a number.
@@ -128,12 +121,8 @@ pub extern "C" fn lensember_block_size(
     words: &[u32],
     slots: &[u64],
     place: u64,
-) -> FlatSized
-    ensures { λ r. ⌜ r ≡ flatSized (sizeOf c (pool (now (bits .entry)) (now (words .entry)) (now (slots .entry))) place) ⌝ }
+) -> release::Sized
+    ensures { λ r. ⌜ r ≡ sizeOf c (pool (now (bits .entry)) (now (words .entry)) (now (slots .entry))) place ⌝ }
 {
-    let r = release::block_size(c, bits, words, slots, place);
-    FlatSized {
-        refusal: r.refusal,
-        size: r.size,
-    }
+    release::block_size(c, bits, words, slots, place)
 }

@@ -17,6 +17,8 @@ pub enum Spot {
     Slot(usize, usize, usize),
 }
 
+// The answer of block size; C reads it as it is.
+#[repr(C)]
 pub struct Sized {
     pub refusal: u64,
     pub size: u64,
