@@ -45,7 +45,7 @@ build/bench/or.o: bench/or.c $(HEADERS) Makefile
 
 SHARED = groups calls trials shapes cases lent model
 DAMAGE_OBJECTS = $(patsubst %,build/tests/%.o,damage $(SHARED))
-SERIES_OBJECTS = $(patsubst %,build/tests/%.o,series twin draws pool $(SHARED))
+SERIES_OBJECTS = $(patsubst %,build/tests/%.o,series readers twin draws pool book $(SHARED))
 BENCH_SHARED = build/bench/timing.o build/bench/or.o build/tests/model.o
 
 # Linked anew each time: LIB may have been another archive before.

@@ -1,5 +1,5 @@
 /*
- * How long do reserve, release and block size take, against one plain OR over
+ * How long do the calls on an existing pool take, against one plain OR over
  * the same records? How it is timed: timing.h.
  *
  * Every call reads all records for the check, so two calls take at least twice
@@ -21,8 +21,11 @@ static const uint64_t sizes[] = {
 static struct lensember_reserved blocks[MAX_CHUNKS * 4000];
 static size_t count;
 
-/* Blocks whose size is asked for. */
-static uint64_t row, table;
+/* Where a census lists them. */
+static uint64_t room[2 * MAX_CHUNKS * 4000];
+
+/* Blocks whose size is asked for, and the one with the highest place. */
+static uint64_t row, table, last;
 
 static struct lensember_reserved reserve(size_t c, uint64_t size)
 {
@@ -66,15 +69,17 @@ static void take_out_last(size_t c, uint64_t given)
     blocks[i] = blocks[--count];
 }
 
-/* The row and the table with the highest places. */
+/* The row, the table and the block with the highest places. */
 static void choose_blocks(void)
 {
-    row = table = 0;
+    row = table = last = 0;
     for (size_t i = 0; i < count; i++) {
         if (blocks[i].size == ROW && blocks[i].place > row)
             row = blocks[i].place;
         if (blocks[i].size == 8192 && blocks[i].place > table)
             table = blocks[i].place;
+        if (blocks[i].place > last)
+            last = blocks[i].place;
     }
 }
 
@@ -146,34 +151,77 @@ static uint64_t size_table(size_t c)
     return lensember_block_size(c, LENT(c), table).refusal;
 }
 
-static timed_call *const calls[] = {call_or, pair_row, pair_table, size_row, size_table};
-enum { CALLS = sizeof calls / sizeof calls[0] };
-
-static void measure(const char *name, void (*make)(size_t), size_t c)
+/* The first block of the pool. */
+static uint64_t next_first(size_t c)
 {
-    double best[CALLS];
+    return lensember_next(c, LENT(c), 0).refusal;
+}
+
+/* None: in a fresh pool nearly all pages are looked at. */
+static uint64_t next_none(size_t c)
+{
+    return lensember_next(c, LENT(c), last + 1).refusal;
+}
+
+static uint64_t list_blocks(size_t c)
+{
+    return lensember_census(c, LENT(c), room, 2 * count).refusal;
+}
+
+static uint64_t total(size_t c)
+{
+    return lensember_totals(c, LENT(c)).refusal;
+}
+
+/* ---- What is printed -------------------------------------------------------- */
+
+enum { COLUMNS = 4 };
+
+struct sheet {
+    const char *heads[COLUMNS];
+    timed_call *calls[COLUMNS + 1]; /* the yardstick first */
+};
+
+static const struct sheet sheets[] = {
+    {{"row pair ratio", "table pair rat.", "row size ratio", "table size rat."},
+     {call_or, pair_row, pair_table, size_row, size_table}},
+    {{"next 1st ratio", "next none ratio", "census ratio", "totals ratio"},
+     {call_or, next_first, next_none, list_blocks, total}},
+};
+
+static void measure(const struct sheet *sheet, const char *name, void (*make)(size_t), size_t c)
+{
+    double best[COLUMNS + 1];
 
     make(c);
     choose_blocks();
-    for (unsigned n = 1; n < CALLS; n++)
-        must(calls[n](c), "a call");
-    time_calls(calls, best, CALLS, c);
+    for (unsigned n = 1; n <= COLUMNS; n++)
+        must(sheet->calls[n](c), sheet->heads[n - 1]);
+    time_calls(sheet->calls, best, COLUMNS + 1, c);
     printf("%-6s %2zu %8.3f", name, c, best[0]);
-    for (unsigned n = 1; n < CALLS; n++)
+    for (unsigned n = 1; n <= COLUMNS; n++)
         printf(" %8.3f %6.2f", best[n], best[n] / best[0]);
     printf("\n");
     fflush(stdout);
 }
 
+static void measure_sheet(const struct sheet *sheet)
+{
+    printf("%-6s %2s %8s", "pool", "c", "or us");
+    for (unsigned n = 0; n < COLUMNS; n++)
+        printf(" %15s", sheet->heads[n]);
+    printf("\n");
+    for (size_t c = 1; c <= MAX_CHUNKS; c += MAX_CHUNKS - 1) {
+        measure(sheet, "fresh", make_fresh, c);
+        measure(sheet, "half", make_half, c);
+        measure(sheet, "full", make_full, c);
+    }
+}
+
 int main(void)
 {
-    printf("%-6s %2s %8s %15s %15s %15s %15s\n", "pool", "c", "or us", "row pair ratio",
-           "table pair rat.", "row size ratio", "table size rat.");
-    for (size_t c = 1; c <= MAX_CHUNKS; c += MAX_CHUNKS - 1) {
-        measure("fresh", make_fresh, c);
-        measure("half", make_half, c);
-        measure("full", make_full, c);
-    }
+    for (size_t i = 0; i < sizeof sheets / sizeof sheets[0]; i++)
+        measure_sheet(&sheets[i]);
     printf("times are microseconds a chunk; a pair is a reserve and a release\n");
     return 0;
 }

@@ -1,7 +1,7 @@
 /*
  * A first look at Lensember: lend the buffers of one chunk, make a fresh pool,
- * reserve a row and a table, give the row back, check the records, damage one
- * bit, and see that the check notices.
+ * reserve a row and a table, list them, give the row back, check the records,
+ * damage one bit, and see that the check notices.
  */
 #include "lensember.h"
 
@@ -24,6 +24,41 @@ static struct lensember_reserved reserve(const char *what, uint64_t size)
     printf("%s of %" PRIu64 " bytes lies at %" PRIu64 ", size %" PRIu64 "\n",
            what, size, block.place, block.size);
     return block;
+}
+
+static int total(void)
+{
+    struct lensember_summed totals = lensember_totals(1, LENT);
+
+    printf("totals: %" PRIu64 " blocks, %" PRIu64 " bytes, %" PRIu64 " free pages\n",
+           totals.blocks, totals.bytes, totals.free_pages);
+    return totals.refusal == LENSEMBER_OK;
+}
+
+/* From place 0 on, then from right behind each block. Place 0 says: no more. */
+static int walk(void)
+{
+    struct lensember_found block = lensember_next(1, LENT, 0);
+
+    while (block.place != 0) {
+        printf("next is %" PRIu64 ", size %" PRIu64 "\n", block.place, block.size);
+        block = lensember_next(1, LENT, block.place + block.size);
+    }
+    return block.refusal == LENSEMBER_OK;
+}
+
+/* The same in one call: two words a block, in a room that the program lends. */
+static int list(void)
+{
+    uint64_t room[8];
+    struct lensember_counted blocks = lensember_census(1, LENT, room, 8);
+
+    printf("census of %" PRIu64 ":", blocks.count);
+    for (uint64_t i = 0; i < blocks.count; i++)
+        printf(" %" PRIu64 " size %" PRIu64 "%s", room[2 * i], room[2 * i + 1],
+               i + 1 < blocks.count ? "," : "");
+    printf("\n");
+    return blocks.refusal == LENSEMBER_OK;
 }
 
 /* A row that is given back twice is noticed, and nothing else changes. */
@@ -62,7 +97,7 @@ int main(void)
 {
     uint64_t fresh, sound, damaged;
     struct lensember_reserved row, table;
-    int released;
+    int read, released;
 
     printf("a pool of 1 chunk: %d bytes in %d pages\n",
            LENSEMBER_CHUNK_BYTES, LENSEMBER_CHUNK_PAGES);
@@ -72,6 +107,7 @@ int main(void)
 
     row = reserve("a row", 24);
     table = reserve("a table", 5000);
+    read = total() && walk() && list();
     released = release_twice(row.place);
     sound = check();
 
@@ -80,6 +116,6 @@ int main(void)
     damaged = check();
 
     return fresh == LENSEMBER_OK && row.kind == LENSEMBER_SLOT
-            && table.kind == LENSEMBER_RUN && released
+            && table.kind == LENSEMBER_RUN && read && released
             && sound == LENSEMBER_OK && damaged == LENSEMBER_DAMAGED ? 0 : 1;
 }

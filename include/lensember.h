@@ -20,7 +20,8 @@
  *
  *   - each pointer is aligned for its type and valid for its count of
  *     elements: for reading, and for writing too where it is not const;
- *   - the three buffers do not overlap;
+ *   - the three buffers do not overlap, nor does the room lent to a census
+ *     overlap any of them;
  *   - nobody else writes to them while the call runs;
  *   - an empty buffer's pointer need only be non-null and aligned.
  *
@@ -45,13 +46,14 @@
 #define LENSEMBER_CHUNK_SLOTS 4096
 
 /* Answers. */
-#define LENSEMBER_OK 0        /* served */
-#define LENSEMBER_SHAPE 1     /* c not 1 to 16, or a buffer not of the exact length */
-#define LENSEMBER_DAMAGED 2   /* the records are not those of any pool */
-#define LENSEMBER_TOO_BIG 3   /* more than 2,093,056 bytes are asked for */
-#define LENSEMBER_NO_ROOM 4   /* no free slot of the class and no long enough gap */
-#define LENSEMBER_NO_BLOCK 5  /* no block or slot starts at that place */
-#define LENSEMBER_FREE_SLOT 6 /* a slot starts there and is free */
+#define LENSEMBER_OK 0         /* served */
+#define LENSEMBER_SHAPE 1      /* c not 1 to 16, or a buffer not of the exact length */
+#define LENSEMBER_DAMAGED 2    /* the records are not those of any pool */
+#define LENSEMBER_TOO_BIG 3    /* more than 2,093,056 bytes are asked for */
+#define LENSEMBER_NO_ROOM 4    /* no free slot of the class and no long enough gap */
+#define LENSEMBER_NO_BLOCK 5   /* no block or slot starts at that place */
+#define LENSEMBER_FREE_SLOT 6  /* a slot starts there and is free */
+#define LENSEMBER_SHORT_ROOM 7 /* a census was lent less than two words a live block */
 
 /* What a reserved block is. */
 #define LENSEMBER_NOTHING 0 /* refused: there is no block */
@@ -177,6 +179,90 @@ struct lensember_sized lensember_block_size(uint64_t c,
                                             const uint32_t *words, size_t nwords,
                                             const uint64_t *slots, size_t nslots,
                                             uint64_t place);
+
+/*
+ * The answer to next. Place 0 is never handed out, so it says that there is no
+ * such block, and the size is 0 then. On a refusal both are 0.
+ */
+struct lensember_found {
+    uint64_t refusal; /* LENSEMBER_OK, or the number of the refusal */
+    uint64_t place;   /* where the block starts; 0 where there is none */
+    uint64_t size;    /* bytes that it was given; 0 where there is none */
+};
+
+/*
+ * Which is the first live block from `place` on: of those that start there or
+ * above, the one with the lowest place? Any number may be given as a place; it
+ * need not be that of a block. That no block starts there or above is no
+ * refusal. Reads only.
+ *
+ * From place 0 on it is the first block of the pool. From a block's place plus
+ * 1, or plus its size, it is the block behind it, so all blocks can be walked
+ * without any room for a list.
+ *
+ *   LENSEMBER_OK       this is the block, or place 0: there is none
+ *   LENSEMBER_SHAPE    c is not 1 to 16, or a buffer is not of the exact length
+ *   LENSEMBER_DAMAGED  the lengths are right and the contents are damaged
+ */
+struct lensember_found lensember_next(uint64_t c,
+                                      const uint64_t *bits, size_t nbits,
+                                      const uint32_t *words, size_t nwords,
+                                      const uint64_t *slots, size_t nslots,
+                                      uint64_t place);
+
+/* The answer to a census. On a refusal the count is 0. */
+struct lensember_counted {
+    uint64_t refusal; /* LENSEMBER_OK, or the number of the refusal */
+    uint64_t count;   /* live blocks, each of them listed */
+};
+
+/*
+ * Lists all live blocks by rising place: two words for each, its place, then
+ * the size it was given. The list starts at room[0]; the words of the room
+ * behind it are unchanged. The records are only read.
+ *
+ * The room has nroom words of 64 bits, and is the caller's before and after
+ * the call. Two words for each block that totals counts are enough; more may
+ * be lent, and none need be lent for a pool without live blocks.
+ *
+ *   LENSEMBER_OK          the blocks are listed
+ *   LENSEMBER_SHAPE       c is not 1 to 16, or a record buffer is not of the
+ *                         exact length
+ *   LENSEMBER_DAMAGED     the lengths are right and the contents are damaged
+ *   LENSEMBER_SHORT_ROOM  nroom is less than two words for each live block
+ *
+ * The refusals are checked in this order. A refused call writes nothing, not
+ * even a part of the list.
+ */
+struct lensember_counted lensember_census(uint64_t c,
+                                          const uint64_t *bits, size_t nbits,
+                                          const uint32_t *words, size_t nwords,
+                                          const uint64_t *slots, size_t nslots,
+                                          uint64_t *room, size_t nroom);
+
+/* The answer to totals. On a refusal all but `refusal` are 0. */
+struct lensember_summed {
+    uint64_t refusal;    /* LENSEMBER_OK, or the number of the refusal */
+    uint64_t blocks;     /* live blocks */
+    uint64_t bytes;      /* bytes given to them, all together */
+    uint64_t free_pages; /* pages in no run; the first of a chunk is not free */
+};
+
+/*
+ * How much is taken, and how much is left? Reads only.
+ *
+ * The free pages, the pages in runs and one page a chunk are all 512 * c pages
+ * of the pool. A run of slots keeps its pages even when all its slots are free,
+ * so a pool without live blocks may have fewer free pages than a fresh one.
+ *
+ *   LENSEMBER_OK       these are the totals
+ *   LENSEMBER_SHAPE    c is not 1 to 16, or a buffer is not of the exact length
+ *   LENSEMBER_DAMAGED  the lengths are right and the contents are damaged
+ */
+struct lensember_summed lensember_totals(uint64_t c,
+                                         const uint64_t *bits, size_t nbits,
+                                         const uint32_t *words, size_t nwords,
+                                         const uint64_t *slots, size_t nslots);
 
 #ifdef __cplusplus
 }

@@ -28,3 +28,18 @@ struct lensember_sized library_block_size(const struct records *r, uint64_t plac
 {
     return lensember_block_size(r->c, LENT(r), place);
 }
+
+struct lensember_found library_next(const struct records *r, uint64_t place)
+{
+    return lensember_next(r->c, LENT(r), place);
+}
+
+struct lensember_counted library_census(const struct records *r, uint64_t *room, size_t nroom)
+{
+    return lensember_census(r->c, LENT(r), room, nroom);
+}
+
+struct lensember_summed library_totals(const struct records *r)
+{
+    return lensember_totals(r->c, LENT(r));
+}

@@ -10,5 +10,8 @@ uint64_t library_fresh(const struct records *r);
 struct lensember_reserved library_reserve(const struct records *r, uint64_t size);
 uint64_t library_release(const struct records *r, uint64_t place);
 struct lensember_sized library_block_size(const struct records *r, uint64_t place);
+struct lensember_found library_next(const struct records *r, uint64_t place);
+struct lensember_counted library_census(const struct records *r, uint64_t *room, size_t nroom);
+struct lensember_summed library_totals(const struct records *r);
 
 #endif

@@ -92,6 +92,7 @@ static void test_numbers(void)
     expect(LENSEMBER_OK == 0 && LENSEMBER_SHAPE == 1 && LENSEMBER_DAMAGED == 2, "answers");
     expect(LENSEMBER_TOO_BIG == 3 && LENSEMBER_NO_ROOM == 4, "answers of reserve");
     expect(LENSEMBER_NO_BLOCK == 5 && LENSEMBER_FREE_SLOT == 6, "answers of release");
+    expect(LENSEMBER_SHORT_ROOM == 7, "answer of census");
     expect(LENSEMBER_NOTHING == 0 && LENSEMBER_SLOT == 1 && LENSEMBER_RUN == 2, "kinds");
     for (unsigned b = 0; b < CLASSES; b++) {
         const struct size_class *row = &size_classes[b];

@@ -294,3 +294,54 @@ uint64_t draw_hostile_place(const struct pool *pool)
 {
     return hostile_places[below(COUNT(hostile_places))](pool);
 }
+
+/* Around the start of a chunk, the end of the pool among them. */
+static uint64_t chunk_edge(const struct pool *pool)
+{
+    static const uint64_t steps[] = {0, 1, 8, PAGE_BYTES - 1, PAGE_BYTES, PAGE_BYTES + 1};
+    uint64_t start = below(pool->c + 1) * CHUNK_BYTES;
+    uint64_t step = steps[below(COUNT(steps))];
+
+    return below(2) ? start + step : start - step;
+}
+
+uint64_t draw_next_place(const struct pool *pool)
+{
+    switch (below(10)) {
+    case 0:
+        return below(3) ? 0 : UINT64_MAX;
+    case 1:
+    case 2:
+        return draw_live_place(pool);
+    case 3:
+        return draw_live_place(pool) + 1;
+    case 4:
+        return draw_live_place(pool) - 1;
+    case 5:
+        return chunk_edge(pool);
+    default:
+        return draw_hostile_place(pool);
+    }
+}
+
+size_t draw_room(const struct pool *pool)
+{
+    size_t exact = 2 * pool->live.count;
+
+    switch (below(8)) {
+    case 0:
+        return exact + 1;
+    case 1:
+        return exact + below(40);
+    case 2:
+        return exact > 0 ? exact - 1 : 0;
+    case 3:
+        return exact > 0 ? exact - 2 : 0;
+    case 4:
+        return below(exact + 1);
+    case 5:
+        return 0;
+    default:
+        return exact;
+    }
+}

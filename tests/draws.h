@@ -12,6 +12,12 @@ uint64_t draw_hostile_size(void);                  /* around each limit, or any 
 /* The place of a live block; page 0 where none is found. */
 uint64_t draw_live_place(const struct pool *pool);
 
+/* A place to look for the next block from, in or outside the pool. */
+uint64_t draw_next_place(const struct pool *pool);
+
+/* Words lent to a census: too few, just enough or more. */
+size_t draw_room(const struct pool *pool);
+
 /* Any of the places that document 01 names under refusals 5 and 6, and others. */
 uint64_t draw_hostile_place(const struct pool *pool);
 

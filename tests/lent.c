@@ -72,6 +72,16 @@ void lent_free(struct records *r)
     guarded_free(r->slots, slots_bytes(r->c));
 }
 
+uint64_t *lent_room_new(size_t words)
+{
+    return guarded_new(words * sizeof(uint64_t));
+}
+
+void lent_room_free(uint64_t *room, size_t words)
+{
+    guarded_free(room, words * sizeof(uint64_t));
+}
+
 void lent_copy(struct records *to, const struct records *from)
 {
     memcpy(to->bits, from->bits, bits_bytes(from->c));

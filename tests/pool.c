@@ -20,6 +20,11 @@ static struct pool_run *run_new(enum run_kind kind, unsigned first, unsigned pag
     return run;
 }
 
+uint64_t run_place(size_t chunk, const struct pool_run *run)
+{
+    return chunk * CHUNK_BYTES + run->first * PAGE_BYTES;
+}
+
 /* Puts a run where it belongs among the others. */
 static void insert_run(struct pool_chunk *chunk, struct pool_run *run)
 {
@@ -50,7 +55,7 @@ void pool_end(struct pool *pool)
             free(pool->chunks[k].runs[i]);
         pool->chunks[k].count = 0;
     }
-    pool->live = 0;
+    book_clear(&pool->live);
     pool->touched.pages = 0;
 }
 
@@ -65,7 +70,7 @@ struct pool_run *pool_put_large(struct pool *pool, size_t chunk, unsigned first,
     struct pool_run *run = run_new(RUN_LARGE, first, pages);
 
     insert_run(&pool->chunks[chunk], run);
-    pool->live++;
+    book_put(&pool->live, run_place(chunk, run), pages * PAGE_BYTES);
     return run;
 }
 
@@ -78,18 +83,20 @@ struct pool_run *pool_put_class(struct pool *pool, size_t chunk, unsigned first,
     return run;
 }
 
-void pool_take_slot(struct pool *pool, struct pool_run *run, unsigned slot)
+void pool_take_slot(struct pool *pool, size_t chunk, struct pool_run *run, unsigned slot)
 {
+    uint64_t size = size_classes[run->class_number].size;
+
     run->taken[slot] = true;
     run->taken_count++;
-    pool->live++;
+    book_put(&pool->live, run_place(chunk, run) + slot * size, size);
 }
 
-static void read_slots(struct pool *pool, struct pool_run *run, struct chunk from)
+static void read_slots(struct pool *pool, size_t chunk, struct pool_run *run, struct chunk from)
 {
     for (unsigned s = 0; s < size_classes[run->class_number].slots; s++)
         if ((from.slots[PAGE_SLOT_WORDS * run->first + s / 64] >> (s % 64)) & 1)
-            pool_take_slot(pool, run, s);
+            pool_take_slot(pool, chunk, run, s);
 }
 
 void pool_read(struct pool *pool, const struct records *sound)
@@ -105,17 +112,12 @@ void pool_read(struct pool *pool, const struct records *sound)
             if (run->kind == RUN_LARGE)
                 pool_put_large(pool, k, run->first, run->pages);
             else
-                read_slots(pool, pool_put_class(pool, k, run->first, run->class_number), from);
+                read_slots(pool, k, pool_put_class(pool, k, run->first, run->class_number), from);
         }
     }
 }
 
 /* ---- Reserve --------------------------------------------------------------- */
-
-uint64_t run_place(size_t chunk, const struct pool_run *run)
-{
-    return chunk * CHUNK_BYTES + run->first * PAGE_BYTES;
-}
 
 /* "the smallest class that holds it" */
 unsigned class_of_size(uint64_t size)
@@ -199,7 +201,7 @@ static struct pool_reserved reserve_slot(struct pool *pool, unsigned b)
     }
     while (run->taken[slot])
         slot++;
-    pool_take_slot(pool, run, slot);
+    pool_take_slot(pool, chunk, run, slot);
     touch(pool, chunk, run);
 
     answer.place = run_place(chunk, run) + slot * size_classes[b].size;
@@ -289,7 +291,7 @@ uint64_t pool_release(struct pool *pool, uint64_t place)
     if (start.refusal != 0)
         return start.refusal;
     touch(pool, start.chunk, start.run);
-    pool->live--;
+    book_take(&pool->live, place);
     if (start.run->kind == RUN_LARGE) {
         remove_run(&pool->chunks[start.chunk], start.run);
     } else {
@@ -311,6 +313,63 @@ struct pool_sized pool_block_size(const struct pool *pool, uint64_t place)
     else
         answer.size = size_classes[start.run->class_number].size;
     return answer;
+}
+
+/* ---- Next, census and totals --------------------------------------------------- */
+
+struct pool_found pool_next(const struct pool *pool, uint64_t place)
+{
+    const struct booked *block = book_from(&pool->live, place);
+    struct pool_found found = {0, 0};
+
+    if (block != NULL) {
+        found.place = block->place;
+        found.size = block->size;
+    }
+    return found;
+}
+
+/* "census buffer shorter than two words a live block" */
+struct pool_counted pool_census(const struct pool *pool, uint64_t *room, size_t nroom)
+{
+    struct pool_counted short_room = {7, 0}, listed = {0, pool->live.count};
+
+    if (nroom < 2 * pool->live.count)
+        return short_room;
+    book_copy(&pool->live, room);
+    return listed;
+}
+
+/* What is left of a chunk between its runs, page 0 left out. */
+static uint64_t gap_pages(const struct pool_chunk *chunk)
+{
+    unsigned behind = 1; /* the page behind the run before */
+    uint64_t pages = 0;
+
+    for (unsigned i = 0; i < chunk->count; i++) {
+        pages += chunk->runs[i]->first - behind;
+        behind = chunk->runs[i]->first + chunk->runs[i]->pages;
+    }
+    return pages + (PAGES - behind);
+}
+
+struct pool_summed pool_totals(const struct pool *pool)
+{
+    struct pool_summed totals = {pool->live.count, pool->live.bytes, 0};
+
+    for (size_t k = 0; k < pool->c; k++)
+        totals.free_pages += gap_pages(&pool->chunks[k]);
+    return totals;
+}
+
+uint64_t pool_run_pages(const struct pool *pool)
+{
+    uint64_t pages = 0;
+
+    for (size_t k = 0; k < pool->c; k++)
+        for (unsigned i = 0; i < pool->chunks[k].count; i++)
+            pages += pool->chunks[k].runs[i]->pages;
+    return pages;
 }
 
 /* ---- The records --------------------------------------------------------------- */

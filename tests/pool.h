@@ -4,11 +4,13 @@
  * It keeps no bits and no page words: a chunk is a list of runs by rising
  * page, a run of slots has the set of those that are taken, and a gap is what
  * lies between two runs. The records are written from the runs only to be
- * compared.
+ * compared. Next, census and totals come from a book of the blocks that were
+ * handed out, and from the gaps.
  */
 #ifndef POOL_H
 #define POOL_H
 
+#include "book.h"
 #include "model.h"
 
 #define PAGE_BYTES UINT64_C(4096)
@@ -37,7 +39,7 @@ struct touched {
 
 struct pool {
     size_t c;
-    unsigned long live; /* blocks handed out and not given back */
+    struct book live; /* blocks handed out and not given back */
     struct touched touched;
     struct pool_chunk chunks[MAX_CHUNKS];
 };
@@ -52,7 +54,7 @@ void pool_read(struct pool *pool, const struct records *sound);
 /* Puts a run on free pages, all slots free. The length of a class run is known. */
 struct pool_run *pool_put_large(struct pool *pool, size_t chunk, unsigned first, unsigned pages);
 struct pool_run *pool_put_class(struct pool *pool, size_t chunk, unsigned first, unsigned b);
-void pool_take_slot(struct pool *pool, struct pool_run *run, unsigned slot);
+void pool_take_slot(struct pool *pool, size_t chunk, struct pool_run *run, unsigned slot);
 
 unsigned class_of_size(uint64_t size); /* for up to 3,072 bytes */
 uint64_t run_place(size_t chunk, const struct pool_run *run);
@@ -73,9 +75,27 @@ struct pool_sized {
     uint64_t size;
 };
 
+struct pool_found {
+    uint64_t place, size;
+};
+
+struct pool_counted {
+    uint64_t refusal;
+    uint64_t count;
+};
+
+struct pool_summed {
+    uint64_t blocks, bytes, free_pages;
+};
+
 struct pool_reserved pool_reserve(struct pool *pool, uint64_t size);
 uint64_t pool_release(struct pool *pool, uint64_t place);
 struct pool_sized pool_block_size(const struct pool *pool, uint64_t place);
+struct pool_found pool_next(const struct pool *pool, uint64_t place);
+struct pool_counted pool_census(const struct pool *pool, uint64_t *room, size_t nroom);
+struct pool_summed pool_totals(const struct pool *pool);
+
+uint64_t pool_run_pages(const struct pool *pool); /* in all runs together */
 
 /* The records of the pool: all of them, or only what the last call changed. */
 void pool_write(const struct pool *pool, struct records *out);

@@ -1,5 +1,5 @@
 /*
- * Tests of reserve, release and block size, through the C calls.
+ * Tests of all calls on an existing pool, through the C calls.
  *
  * Each answer, and after each call all three buffers, are compared with the
  * independent pool of pool.c; document 01's samples with its own numbers too.
@@ -9,6 +9,7 @@
 #include "calls.h"
 #include "draws.h"
 #include "groups.h"
+#include "readers.h"
 #include "shapes.h"
 #include "trials.h"
 #include "twin.h"
@@ -110,7 +111,15 @@ static void sample_log(struct twin *twin)
     expect_served(twin, 10, 16384, 16);
     expect_served(twin, 20, 4096, 24);
     expect_release(twin, 4100, 5);
-    expect(twin->model.live == 4, "live blocks");
+    expect(twin->model.live.count == 4, "live blocks");
+    expect_totals(twin, 4, 24 + 24 + 8192 + 16, 507);
+    expect_next(twin, 0, 4096, 24);
+    expect_next(twin, 4097, 4120, 24);
+    expect_next(twin, 8192, 8192, 8192);
+    expect_next(twin, 8193, 16384, 16);
+    expect_next(twin, 16385, 0, 0);
+    expect_census(twin, 8, 0, 4);
+    expect_census(twin, 7, 7, 0);
 }
 
 /* Takes whole chunks, each by one run. */
@@ -186,7 +195,7 @@ static void sample_slot_before_gap(struct twin *twin)
 {
     struct pool_run *run = pool_put_class(&twin->model, 2, 7, 5);
 
-    pool_take_slot(&twin->model, run, 0);
+    pool_take_slot(&twin->model, 2, run, 0);
     twin_settle(twin);
     expect_served(twin, 48, 2 * CHUNK_BYTES + 7 * PAGE_BYTES + 48, 48);
     expect_served(twin, 49, 4096, 56);
@@ -427,7 +436,7 @@ static void put_class_everywhere(struct twin *twin, unsigned b)
             bool last = k == twin->model.c - 1 && page + 2 * row->pages > PAGES;
             struct pool_run *run = pool_put_class(&twin->model, k, page, b);
             for (unsigned s = 0; s < row->slots && !last; s++)
-                pool_take_slot(&twin->model, run, s);
+                pool_take_slot(&twin->model, k, run, s);
         }
     }
     twin_settle(twin);
@@ -444,7 +453,7 @@ static void fill_with_class(unsigned b)
     if (!from_fresh)
         put_class_everywhere(twin, b);
     expect(fill_up(twin, row->size) == (from_fresh ? slots : row->slots), "class %u", b);
-    expect(twin->model.live == slots, "class %u: live", b);
+    expect(twin->model.live.count == slots, "class %u: live", b);
     give_back_and_take(twin, row->size);
     probe(twin);
     twin_free(twin);
@@ -643,7 +652,20 @@ static bool next_tide(const struct twin *twin, bool filling, uint64_t refusal)
 {
     if (filling)
         return refusal != 4;
-    return twin->model.live < 4;
+    return twin->model.live.count < 4;
+}
+
+/* A census of many blocks takes long and is asked for less often. */
+static void read_back(struct twin *twin, unsigned calls)
+{
+    unsigned a_census = twin->model.live.count <= 2000 ? 16 : 128;
+
+    if (calls % 4 == 1)
+        twin_next(twin, draw_next_place(&twin->model));
+    if (calls % 16 == 2)
+        twin_totals(twin);
+    if (calls % a_census == 3)
+        twin_census(twin, draw_room(&twin->model));
 }
 
 static void run_series(struct twin *twin, const struct mix *mix, unsigned b, unsigned calls)
@@ -665,6 +687,7 @@ static void run_series(struct twin *twin, const struct mix *mix, unsigned b, uns
         } else {
             twin_block_size(twin, place);
         }
+        read_back(twin, i);
         recent[i % 16] = place;
         if (mix->tides)
             filling = next_tide(twin, filling, refusal);
@@ -688,6 +711,15 @@ static void run_mix(const struct mix *mix)
     }
 }
 
+static void expect_enough_reads(void)
+{
+    expect(tally.next[0] >= 50000, "only %lu calls of next", tally.next[0]);
+    expect(tally.next_none >= 5000, "only %lu without a block", tally.next_none);
+    expect(tally.totals[0] >= 10000, "only %lu totals", tally.totals[0]);
+    expect(tally.census[0] >= 5000, "only %lu censuses", tally.census[0]);
+    expect(tally.census[7] >= 3000, "only %lu in short rooms", tally.census[7]);
+}
+
 static void test_random_series(void)
 {
     unsigned long calls = 0;
@@ -701,7 +733,7 @@ static void test_random_series(void)
     }
     group_begin("random", "enough-of-each-answer");
     group.trials = calls;
-    expect(calls >= 300000, "only %lu calls", calls);
+    expect(calls >= 450000, "only %lu calls", calls);
     expect(tally.reserve[0] >= 50000, "only %lu served", tally.reserve[0]);
     expect(tally.reserve[3] >= 1000, "only %lu too big", tally.reserve[3]);
     expect(tally.reserve[4] >= 1000, "only %lu without room", tally.reserve[4]);
@@ -711,6 +743,7 @@ static void test_random_series(void)
     expect(tally.block_size[0] >= 10000, "only %lu sizes", tally.block_size[0]);
     expect(tally.block_size[5] >= 2000, "only %lu sizes of no block", tally.block_size[5]);
     expect(tally.block_size[6] >= 500, "only %lu sizes of free slots", tally.block_size[6]);
+    expect_enough_reads();
     group_end();
 }
 
@@ -733,7 +766,7 @@ static void test_every_place(void)
     group_begin("place", "release-of-every-eighth-byte");
     for (uint64_t place = 0; place < CHUNK_BYTES + PAGE_BYTES; place += 8)
         twin_release(twin, place);
-    expect(twin->model.live == 0, "%lu blocks are left", twin->model.live);
+    expect(twin->model.live.count == 0, "%lu blocks are left", twin->model.live.count);
     group_end();
     twin_free(twin);
 }
@@ -852,6 +885,7 @@ static void expect_calls_refuse(uint64_t number, uint64_t c, const struct record
                tried_places[i], c, sized.refusal, sized.size);
     }
     group.trials += COUNT(tried_sizes) + 2 * COUNT(tried_places);
+    expect_readers_refuse(number, c, r, n);
 }
 
 static void expect_shape_refused(uint64_t c, struct lengths n)
@@ -907,6 +941,8 @@ static void expect_damage_refused(const struct trial_pools *pools, size_t chunk,
     live = draw_live_place(&model);
     expect(library_release(&pools->lent, live) == 2, "release of a live block");
     expect(library_block_size(&pools->lent, live).refusal == 2, "block size of a live block");
+    expect(library_next(&pools->lent, live).refusal == 2, "next from a live block");
+    expect_census_refused(&pools->lent, 2, 2 * model.live.count);
     expect(lent_equal(&pools->lent, &pools->before),
            "c %zu chunk %zu page %u variant %u: a buffer was changed", c, chunk, page, variant);
     pool_end(&model);
@@ -945,6 +981,7 @@ int main(int argc, char **argv)
     test_live_sizes();
     test_hostile_places();
     test_page_0();
+    test_readers();
     test_bad_shapes("sound-records", shelf_fill_sound);
     test_bad_shapes("damaged-records", shelf_fill_random);
     test_empty_buffers();

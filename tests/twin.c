@@ -6,10 +6,30 @@
 #include <inttypes.h>
 #include <stdio.h>
 #include <stdlib.h>
+#include <string.h>
 
-enum { CALLS_A_REVIEW = 256 };
+enum { CALLS_A_REVIEW = 256, WORDS_BEFORE_ROOM = 16 };
 
 struct tally tally;
+
+static void free_rooms(struct twin *twin)
+{
+    if (twin->room_words == 0)
+        return;
+    lent_room_free(twin->room, twin->room_words);
+    lent_room_free(twin->listed, twin->room_words);
+    twin->room_words = 0;
+}
+
+static void make_rooms(struct twin *twin, size_t words)
+{
+    if (words <= twin->room_words)
+        return;
+    free_rooms(twin);
+    twin->room_words = 2 * words;
+    twin->room = lent_room_new(twin->room_words);
+    twin->listed = lent_room_new(twin->room_words);
+}
 
 struct twin *twin_new(size_t c)
 {
@@ -32,6 +52,7 @@ void twin_free(struct twin *twin)
     lent_free(&twin->lent);
     lent_free(&twin->right);
     lent_free(&twin->anew);
+    free_rooms(twin);
     pool_end(&twin->model);
     free(twin);
 }
@@ -49,7 +70,7 @@ void twin_generate(struct twin *twin, const struct recipe *recipe)
     pool_read(&twin->model, &twin->lent);
     pool_write(&twin->model, &twin->right);
     expect(lent_equal(&twin->lent, &twin->right), "the model reads %s wrongly", recipe->name);
-    twin_settle(twin);
+    lent_copy(&twin->lent, &twin->right);
 }
 
 /* The records so far were written call by call: are they those of the runs? */
@@ -76,9 +97,9 @@ static void compare_records(struct twin *twin, const char *call, uint64_t number
         review(twin);
 }
 
-static void count_answer(unsigned long counts[8], uint64_t answer)
+static void count_answer(unsigned long counts[ANSWERS], uint64_t answer)
 {
-    counts[answer < 7 ? answer : 7]++;
+    counts[answer < ANSWERS - 1 ? answer : ANSWERS - 1]++;
 }
 
 void twin_fresh(struct twin *twin)
@@ -139,5 +160,87 @@ struct pool_sized twin_block_size(struct twin *twin, uint64_t place)
     count_answer(tally.block_size, answer.refusal);
     twin->model.touched.pages = 0;
     compare_records(twin, "block size of", place);
+    return right;
+}
+
+struct pool_found twin_next(struct twin *twin, uint64_t place)
+{
+    struct lensember_found answer = library_next(&twin->lent, place);
+    struct pool_found right = pool_next(&twin->model, place);
+
+    expect(answer.refusal == 0 && answer.place == right.place && answer.size == right.size,
+           "c %zu call %lu, next from %" PRIu64 ": answer %" PRIu64 " at %" PRIu64 " size %" PRIu64
+           ", the model says at %" PRIu64 " size %" PRIu64,
+           twin->model.c, twin->calls, place, answer.refusal, answer.place, answer.size,
+           right.place, right.size);
+    count_answer(tally.next, answer.refusal);
+    tally.next_none += answer.refusal == 0 && answer.place == 0;
+    twin->model.touched.pages = 0;
+    compare_records(twin, "next from", place);
+    return right;
+}
+
+/* No two words are alike, nor are they those of the last time. */
+static void fill_rooms(struct twin *twin, size_t words)
+{
+    uint64_t word = rng_next(&rng);
+    size_t before = twin->room_words - words;
+
+    for (size_t i = before; i < twin->room_words; i++)
+        twin->room[i] = twin->listed[i] = word += UINT64_C(0x9E3779B97F4A7C15);
+}
+
+/* The room, the words behind the list and some before the room are compared. */
+struct pool_counted twin_census(struct twin *twin, size_t nroom)
+{
+    size_t words = WORDS_BEFORE_ROOM + nroom, before;
+    struct lensember_counted answer;
+    struct pool_counted right;
+
+    make_rooms(twin, words);
+    fill_rooms(twin, words);
+    before = twin->room_words - words;
+    answer = library_census(&twin->lent, twin->room + twin->room_words - nroom, nroom);
+    right = pool_census(&twin->model, twin->listed + twin->room_words - nroom, nroom);
+
+    expect(answer.refusal == right.refusal && answer.count == right.count,
+           "c %zu call %lu, census in %zu words: answer %" PRIu64 " count %" PRIu64
+           ", the model says %" PRIu64 " count %" PRIu64,
+           twin->model.c, twin->calls, nroom, answer.refusal, answer.count,
+           right.refusal, right.count);
+    expect(memcmp(twin->room + before, twin->listed + before, words * sizeof *twin->room) == 0,
+           "c %zu call %lu, census in %zu words: the room is not what the model makes of it",
+           twin->model.c, twin->calls, nroom);
+    count_answer(tally.census, answer.refusal);
+    twin->model.touched.pages = 0;
+    compare_records(twin, "census in words", nroom);
+    return right;
+}
+
+/* "Free pages plus pages in runs plus c equals 512c." */
+static void compare_pages(const struct twin *twin, uint64_t free_pages)
+{
+    uint64_t c = twin->model.c, in_runs = pool_run_pages(&twin->model);
+
+    expect(free_pages + in_runs + c == 512 * c,
+           "c %zu call %lu: %" PRIu64 " free pages and %" PRIu64 " in runs",
+           twin->model.c, twin->calls, free_pages, in_runs);
+}
+
+struct pool_summed twin_totals(struct twin *twin)
+{
+    struct lensember_summed answer = library_totals(&twin->lent);
+    struct pool_summed right = pool_totals(&twin->model);
+
+    expect(answer.refusal == 0 && answer.blocks == right.blocks && answer.bytes == right.bytes
+               && answer.free_pages == right.free_pages,
+           "c %zu call %lu, totals: answer %" PRIu64 ", %" PRIu64 " blocks %" PRIu64
+           " bytes %" PRIu64 " free pages, the model says %" PRIu64 " %" PRIu64 " %" PRIu64,
+           twin->model.c, twin->calls, answer.refusal, answer.blocks, answer.bytes,
+           answer.free_pages, right.blocks, right.bytes, right.free_pages);
+    compare_pages(twin, answer.free_pages);
+    count_answer(tally.totals, answer.refusal);
+    twin->model.touched.pages = 0;
+    compare_records(twin, "totals", twin->model.c);
     return right;
 }

@@ -14,6 +14,9 @@ struct twin {
     struct records anew;  /* written anew from time to time, to compare */
     struct pool model;
     unsigned long calls;
+    size_t room_words; /* of each of these two, for a census */
+    uint64_t *room;    /* lent: as many words from its end as are asked for */
+    uint64_t *listed;  /* what the model lists there */
 };
 
 struct twin *twin_new(size_t c); /* fresh */
@@ -28,10 +31,17 @@ void twin_fresh(struct twin *twin);
 struct pool_reserved twin_reserve(struct twin *twin, uint64_t size);
 uint64_t twin_release(struct twin *twin, uint64_t place);
 struct pool_sized twin_block_size(struct twin *twin, uint64_t place);
+struct pool_found twin_next(struct twin *twin, uint64_t place);
+struct pool_counted twin_census(struct twin *twin, size_t nroom);
+struct pool_summed twin_totals(struct twin *twin);
 
-/* How often the library gave each answer, 0 to 6. Others count as 7. */
+/* How often the library gave each answer, 0 to 7. Others count as 8. */
+enum { ANSWERS = 9 };
+
 struct tally {
-    unsigned long reserve[8], release[8], block_size[8];
+    unsigned long reserve[ANSWERS], release[ANSWERS], block_size[ANSWERS];
+    unsigned long next[ANSWERS], census[ANSWERS], totals[ANSWERS];
+    unsigned long next_none; /* no block at or above the place */
 };
 extern struct tally tally;
 

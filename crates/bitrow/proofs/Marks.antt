@@ -8,7 +8,7 @@ use Prim.Native.Nat.{ℕ, zero, suc, _+_, _-_, _*_, _/_, _%_, _≤_, _<_}
 use native.Mathlib.Nat.{zero-add, add-zero, suc-add, eq-or-lt-of-le}
 use native.Mathlib.Decide.{ℕ-discrete}
 use native.Mathlib.Omega.{arith}
-use borrow.Author.Tests.{eqb-true, eqb-false}
+use borrow.Author.Tests.{eqb-true, eqb-false, eq-eqb, ne-eqb}
 use lib.Dec.{eqb}
 use lib.ListN.{length, getD, set, length-set}
 use lib.Seq.{getD-set-same, getD-set-other}
@@ -131,3 +131,12 @@ set-or-clear ws i = (λ e. eqb-true (bitAt ws i) 1 e, λ e. not-one (bitAt ws i)
     not-one : (b : ℕ) → b ≤ 1 → (b ≡ 1 → ⊥) → b ≡ 0
     not-one zero l d = refl
     not-one (suc b) l d = absurd (d (omega arith))
+
+-- and the other way round
+pub one-set : (ws : List ℕ) (i : ℕ) → bitAt ws i ≡ 1 → isSet ws i ≡ true
+unfolding isSet
+one-set ws i e = eq-eqb (bitAt ws i) 1 e
+
+pub zero-clear : (ws : List ℕ) (i : ℕ) → bitAt ws i ≡ 0 → isSet ws i ≡ false
+unfolding isSet
+zero-clear ws i e = ne-eqb (bitAt ws i) 1 (λ h. omega arith)

@@ -16,7 +16,7 @@ use Rattle.records.specs.Sound.{step}
 use Rattle.records.specs.Runs.{spanOf}
 use Rattle.records.proofs.WalkLaws.{walk, walk-next, sound-walks, step-inner}
 use Rattle.records.proofs.RunLaws.{begins-run, sound-runs}
-use Rattle.blocks.specs.Blocks.{Block, slotBlock, flat, when, blocksAt, live, Rising, stop, next}
+use Rattle.blocks.specs.Blocks.{Block, slotBlock, flat, when, blocksAt, live, pageBlocks, Rising, stop, next}
 use Rattle.blocks.specs.Stores.{Good}
 
 -- ---- rising lists
@@ -40,7 +40,7 @@ rising-append (next h z t) k = next h z (rising-append t k)
 -- ---- the blocks of a page
 
 -- the slots of a run fit into its pages
-slots-fit : (b : ℕ) → slots b * size b ≤ 4096 * suc (behind b)
+pub slots-fit : (b : ℕ) → slots b * size b ≤ 4096 * suc (behind b)
 unfolding behind
 slots-fit b = any-row b .fit
 
@@ -85,7 +85,7 @@ walk-rising K t (suc n) st g h =
     (rising-append (page-rising (t g) g st (K g) (s .due) (s .steps)) (walk-rising K t n (s .due) (suc g) (s .walks)))
 
 pub live-rising : (c : ℕ) (p : Pool) → Good c p → Rising 0 (live c p) (2097152 * c)
-unfolding live
+unfolding live pageBlocks
 live-rising c p h =
     rising-widen (omega arith) (omega arith) (walk-rising (kindAt p) (slotAt p) (512 * c) [] 0 (sound-walks c p (h .whole) .walks))
 
@@ -125,7 +125,7 @@ run-within g (inner w) t m = absurd (List·Memᴰ·not-nil m)
 
 pub live-off : (c : ℕ) (p : Pool) → Good c p → (b : Block) → List·Memᴰ b (live c p)
     → (q : ℕ) → b .place ≤ q → q < b .place + b .size → q / 4096 % 512 ≢ 0
-unfolding live
+unfolding live pageBlocks
 live-off c p h b m q x y =
     let (g, a, l, n) = flat-from (λ g. blocksAt g (kindAt p g) (slotAt p g)) 0 (512 * c) m in
     let w = run-within g (kindAt p g) (slotAt p g) n in

@@ -19,7 +19,7 @@ use Rattle.records.specs.Sound.{all, named, clean, step, sound}
 use Rattle.records.specs.Calls.{fit}
 use Rattle.records.proofs.Flags.{flag-eq}
 use Rattle.records.proofs.WalkLaws.{walk, walk-step, sound-walks, walks-sound, Begins}
-use Rattle.blocks.specs.Blocks.{Block, slotBlock, when, blocksAt, live, Ins, here}
+use Rattle.blocks.specs.Blocks.{Block, slotBlock, when, blocksAt, live, pageBlocks, Ins, here}
 use Rattle.blocks.specs.Stores.{Good, Gains, Loses}
 use Rattle.blocks.proofs.FlatLaws.{flat-same, flat-ins, blocks-same}
 use Rattle.blocks.proofs.SeamLaws.{walk-agree, walk-same, walk-stuck, walk-free, walk-inner}
@@ -129,14 +129,14 @@ module _ {c : ℕ} {p q : Pool} {g n : ℕ} {head : Kind} {ws : List ℕ} (f : R
 
   -- the run begins a block, or none
   pub run-ins : (b : Block) → Ins b [] (blocksAt g head (slotAt q g)) → Ins b (live c p) (live c q)
-  unfolding live
+  unfolding live pageBlocks
   run-ins b h =
       let z = f .fits in
       flat-ins (λ i. blocksAt i (kindAt p i) (slotAt p i)) (λ i. blocksAt i (kindAt q i) (slotAt q i)) b g 0 (512 * c)
       (omega arith) (omega arith) (rw (were-free, f .first) h) (λ i d a l. run-others i d)
 
   pub run-same : blocksAt g head (slotAt q g) ≡ [] → live c p ≡ live c q
-  unfolding live
+  unfolding live pageBlocks
   run-same h =
       flat-same (λ i. blocksAt i (kindAt p i) (slotAt p i)) (λ i. blocksAt i (kindAt q i) (slotAt q i)) 0 (512 * c)
       (λ i a l. by-cases (ℕ-discrete i g) (λ e. rw (e, were-free, f .first, h)) (run-others i))
@@ -179,7 +179,7 @@ module _ {c : ℕ} {p q : Pool} {g b s : ℕ} (f : SlotFlip c p q g b s) where
   when-flip x t t′ e e′ = rw (e, e′) here
 
   pub slot-ins : Ins (slotBlock g b s) (live c p) (live c q)
-  unfolding live
+  unfolding live pageBlocks
   slot-ins =
       let z = f .inside in let l = f .slot in let few = any-row b .slots-most in
       flat-ins (λ i. blocksAt i (kindAt p i) (slotAt p i)) (λ i. blocksAt i (kindAt q i) (slotAt q i)) (slotBlock g b s) g 0 (512 * c)

@@ -23,7 +23,7 @@ use Rattle.records.proofs.WalkLaws.{walk, walk-next, Sound, sound-walks, walk-f
 use Rattle.records.proofs.RunLaws.{Mid, mid-off, walk-run}
 use Rattle.records.proofs.FreshLaws.{fresh-edge, fresh-free}
 use Rattle.records.proofs.AdmitLaws.{Shape, shaped-lengths}
-use Rattle.blocks.specs.Blocks.{Block, slotBlock, runBlock, when, blocksAt, live, Ins, here}
+use Rattle.blocks.specs.Blocks.{Block, slotBlock, runBlock, when, blocksAt, live, pageBlocks, Ins, here}
 use Rattle.blocks.specs.Stores.{putRun, putSlot, Good, Gains, Loses}
 use Rattle.blocks.proofs.FlatLaws.{flat-nil}
 use Rattle.blocks.proofs.StoreLaws.{free-off, run-fit, run-slots, run-out, run-in, slot-fit, slot-kinds, slot-same, slot-other}
@@ -203,7 +203,7 @@ put-class c p h g b l fits were =
 -- ---- fresh records
 
 pub fresh-empty : (c : ℕ) → live c (freshPool c) ≡ []
-unfolding live
+unfolding live pageBlocks
 fresh-empty c =
     flat-nil (λ g. blocksAt g (kindAt (freshPool c) g) (slotAt (freshPool c) g)) 0 (512 * c)
     (λ g a l. by-cases (ℕ-discrete (g % 512) 0)

@@ -4,3 +4,4 @@ pub mod StoreLaws
 pub mod FlipLaws
 pub mod KeepLaws
 pub mod ApartLaws
+pub mod PageLaws

@@ -38,9 +38,13 @@ blocksAt g (large k) taken = runBlock g k ∷ []
 blocksAt g (class b) taken = flat (λ s. when (taken s) (slotBlock g b s)) 0 (slots b)
 blocksAt g (inner w) taken = []
 
+-- the same, of a pool
+unfoldable pub pageBlocks : Pool → ℕ → List Block
+pageBlocks p g = blocksAt g (kindAt p g) (slotAt p g)
+
 -- the live blocks of a pool of c chunks
 unfoldable pub live : ℕ → Pool → List Block
-live c p = flat (λ g. blocksAt g (kindAt p g) (slotAt p g)) 0 (512 * c)
+live c p = flat (pageBlocks p) 0 (512 * c)
 
 -- the second list is the first with the block b more
 pub data Ins (b : Block) : List Block → List Block → Type 0 where

@@ -4,6 +4,9 @@ ghost use Rattle.records.specs.Pool.{pool};
 ghost use Rattle.records.specs.Calls.{admitOf, leaves, freshOf};
 ghost use Rattle.reserve.specs.Reserve.{reserveOf};
 ghost use Rattle.release.specs.Release.{releaseOf, sizeOf};
+ghost use Rattle.next.specs.Next.{nextOf};
+ghost use Rattle.census.specs.Census.{listed, censusOf};
+ghost use Rattle.totals.specs.Totals.{totalsOf};
 ghost use Rattle.lensember.specs.Flat.{flatReserved, reservedOf};
 
 // struct lensember_reserved: kind is 0 for nothing, 1 for a slot, 2 for a page run; what does not apply is 0.
@@ -125,4 +128,45 @@ pub extern "C" fn lensember_block_size(
     ensures { λ r. ⌜ r ≡ sizeOf c (pool (now (bits .entry)) (now (words .entry)) (now (slots .entry))) place ⌝ }
 {
     release::block_size(c, bits, words, slots, place)
+}
+
+// Document 01's next.
+#[no_mangle]
+pub extern "C" fn lensember_next(
+    c: u64,
+    bits: &[u64],
+    words: &[u32],
+    slots: &[u64],
+    place: u64,
+) -> next::Next
+    ensures { λ r. ⌜ r ≡ nextOf c (pool (now (bits .entry)) (now (words .entry)) (now (slots .entry))) place ⌝ }
+{
+    next::next_live(c, bits, words, slots, place)
+}
+
+// Document 01's census.
+#[no_mangle]
+pub extern "C" fn lensember_census(
+    c: u64,
+    bits: &[u64],
+    words: &[u32],
+    slots: &[u64],
+    room: &mut [u64],
+) -> census::Counted
+    ensures { λ r. ⌜ listed r (now (room .exit)) ≡ censusOf c (pool (now (bits .entry)) (now (words .entry)) (now (slots .entry))) (now (room .entry)) ⌝ }
+{
+    census::census(c, bits, words, slots, room)
+}
+
+// Document 01's totals.
+#[no_mangle]
+pub extern "C" fn lensember_totals(
+    c: u64,
+    bits: &[u64],
+    words: &[u32],
+    slots: &[u64],
+) -> totals::Sums
+    ensures { λ r. ⌜ r ≡ totalsOf c (pool (now (bits .entry)) (now (words .entry)) (now (slots .entry))) ⌝ }
+{
+    totals::totals(c, bits, words, slots)
 }

@@ -1,0 +1,197 @@
+// Next: the live block with the lowest place at or above a place.
+ghost use mathlib.Core.Path.{_≡_};
+ghost use mathlib.Core.Logic.{_≢_};
+ghost use Prim.Native.Nat.{_*_, _/_, _%_, _<_};
+ghost use Rattle.classes.specs.Classes.{size};
+ghost use Rattle.records.specs.Pool.{pool, kindAt};
+ghost use Rattle.records.specs.Calls.{admitOf};
+ghost use Rattle.blocks.specs.Blocks.{live};
+ghost use Rattle.next.specs.Next.{firstFrom, nextOf};
+ghost use Rattle.next.specs.Walk.{Least, Started, begunAt};
+ghost use Rattle.next.specs.Means.{NextMeans};
+
+// A block's place and size, or none.
+pub enum Found {
+    At(u64, u64),
+    Nothing,
+}
+
+// The answer of next; C reads it as it is.
+#[repr(C)]
+pub struct Next {
+    pub refusal: u64,
+    pub place: u64,
+    pub size: u64,
+}
+
+// Where the search starts: a page, and a slot of the run that starts there.
+pub struct Start {
+    pub page: usize,
+    pub slot: usize,
+}
+
+// What starts at a page: a large run of so many pages, or a run of so many slots of a size, or nothing.
+pub struct Begun {
+    pub pages: usize,
+    pub count: usize,
+    pub size: usize,
+}
+
+// The first slot of a run of class b that starts at or above byte off of the run.
+fn slot_from(b: usize, off: usize) -> usize
+    requires { ⌜ (b < 30) × (off < 65536) ⌝ }
+    ensures { λ r. ⌜ Least (size b) off r ⌝ }
+{
+    let row = classes::class_row(b);
+    let z = widths::wide16(row.size);
+    (off + (z - 1)) / z
+}
+
+// The page and slot at which the search for the place q starts. A page inside a class run has the run's first page in its word. Any
+// other page but a class run's first begins at most a block at its first byte.
+fn start_of(c: u64, bits: &[u64], words: &[u32], slots: &[u64], q: usize) -> Start
+    requires { ⌜ (admitOf c (pool (now bits) (now words) (now slots)) ≡ 0) × (q / 4096 < 512 * c) ⌝ }
+    ensures { λ r. ⌜ Started c (pool (now (bits .entry)) (now (words .entry)) (now (slots .entry))) q (r .page) (r .slot) ⌝ }
+{
+    let g = q / 4096;
+    if g % 512 == 0 {
+        return Start {
+            page: g + 1,
+            slot: 0,
+        };
+    }
+    let w = words[g];
+    if 0xC0000000 <= w {
+        let k = ((w - 0xC0000000) / 65536) as usize;
+        let f = g - k;
+        let s = slot_from((w % 65536) as usize, q - 4096 * f);
+        return Start { page: f, slot: s };
+    }
+    if 0x80000000 <= w {
+        let s = slot_from((w - 0x80000000) as usize, q - 4096 * g);
+        return Start { page: g, slot: s };
+    }
+    if q % 4096 == 0 {
+        return Start { page: g, slot: 0 };
+    }
+    Start {
+        page: g + 1,
+        slot: 0,
+    }
+}
+
+// What starts at page g, which is no page 0.
+fn begun_at(c: u64, bits: &[u64], words: &[u32], slots: &[u64], g: usize) -> Begun
+    requires { ⌜ (admitOf c (pool (now bits) (now words) (now slots)) ≡ 0) × (g < 512 * c) × (g % 512 ≢ 0) ⌝ }
+    ensures { λ r. ⌜ r ≡ begunAt (kindAt (pool (now (bits .entry)) (now (words .entry)) (now (slots .entry))) g) ⌝ }
+{
+    let word = words[g];
+    if 0xC0000000 <= word {
+        return Begun {
+            pages: 0,
+            count: 0,
+            size: 0,
+        };
+    }
+    if 0x80000000 <= word {
+        let row = classes::class_row((word - 0x80000000) as usize);
+        let n = widths::wide16(row.slots);
+        let z = widths::wide16(row.size);
+        return Begun {
+            pages: 0,
+            count: n,
+            size: z,
+        };
+    }
+    if word < 0x40000001 {
+        return Begun {
+            pages: 0,
+            count: 0,
+            size: 0,
+        };
+    }
+    Begun {
+        pages: (word - 0x40000000) as usize,
+        count: 0,
+        size: 0,
+    }
+}
+
+// The search, on records that are sound: chunks, pages and slots from the place on, left at the first live block. Free pages and free
+// slots are passed a word at a time.
+pub fn next_sound(c: u64, bits: &[u64], words: &[u32], slots: &[u64], q: u64) -> Found
+    requires { ⌜ admitOf c (pool (now bits) (now words) (now slots)) ≡ 0 ⌝ }
+    ensures { λ r. ⌜ r ≡ firstFrom q (live c (pool (now (bits .entry)) (now (words .entry)) (now (slots .entry)))) ⌝ }
+{
+    if 512 * c <= q / 4096 {
+        return Found::Nothing;
+    }
+    let from = start_of(c, bits, words, slots, q as usize);
+    let chunks = c as usize;
+    let mut chunk = q as usize / 4096 / 512;
+    let mut page = from.page - 512 * chunk;
+    let mut slot = from.slot;
+    let found = 'search: loop {
+        if chunk == chunks {
+            break 'search Found::Nothing;
+        }
+        while page < 512 {
+            let g = 512 * chunk + page;
+            let run = begun_at(c, bits, words, slots, g);
+            let n = run.count;
+            let z = run.size;
+            if run.pages != 0 {
+                break 'search Found::At(widths::wide64(4096 * g), widths::wide64(4096 * run.pages));
+            }
+            while slot < n {
+                slot = bitrow::next_bit(slots, 512 * g + slot, 512 * g + n, true) - 512 * g;
+                if slot < n {
+                    break 'search Found::At(widths::wide64(4096 * g + slot * z), widths::wide64(z));
+                }
+            }
+            page = bitrow::next_bit(bits, g + 1, 512 * chunk + 512, true) - 512 * chunk;
+            slot = 0;
+        }
+        chunk += 1;
+        page = 1;
+        slot = 0;
+    };
+    found
+}
+
+// Document 01's next: the place and size of the live block with the lowest place at or above q, or none with place 0 and size 0.
+pub fn next_live(c: u64, bits: &[u64], words: &[u32], slots: &[u64], q: u64) -> Next
+    ensures { λ r. ⌜ r ≡ nextOf c (pool (now (bits .entry)) (now (words .entry)) (now (slots .entry))) q ⌝ }
+{
+    let a = admit::admit(c, bits, words, slots);
+    if a != 0 {
+        return Next {
+            refusal: a,
+            place: 0,
+            size: 0,
+        };
+    }
+    match next_sound(c, bits, words, slots, q) {
+        Found::At(y, z) => {
+            return Next {
+                refusal: 0,
+                place: y,
+                size: z,
+            };
+        }
+        Found::Nothing => {
+            return Next {
+                refusal: 0,
+                place: 0,
+                size: 0,
+            };
+        }
+    }
+}
+
+// What next finds among the live blocks.
+pub fn next_means() -> bool
+    ensures { λ r. ⌜ NextMeans ⌝ }
+{
+    true
+}

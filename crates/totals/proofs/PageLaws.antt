@@ -1,0 +1,154 @@
+-- Pages: free ones, those in runs, and page 0 of each chunk. Assumes nothing.
+use mathlib.Core.Path.{_≡_, refl, sym, ap, ap₂, _∙_}
+use mathlib.Core.Logic.{_≢_, by-cases}
+use mathlib.Core.Bool.{Bool, true, false, false≢true}
+use mathlib.Core.Option.{some, Option·none-ne-some, Option·some-injective}
+use mathlib.Core.List.{List, [], _∷_}
+use Prim.Native.Nat.{ℕ, zero, suc, _+_, _-_, _*_, _/_, _%_, _≤_, _<_}
+use native.Mathlib.Decide.{ℕ-discrete}
+use native.Mathlib.Omega.{arith}
+use lib.ListN.{length, getD}
+use borrow.Author.Tests.{ne-eqb}
+use Rattle.bitrow.specs.Row.{digit, bitAt, isSet, countBits}
+use Rattle.records.specs.Kinds.{Kind, edge, free, damaged, large, class, inner, kindOf}
+use Rattle.records.specs.Pool.{Pool, isEdge, kindAt}
+use Rattle.records.specs.Sound.{step, sound}
+use Rattle.records.specs.Runs.{spanOf}
+use Rattle.records.specs.Calls.{admitOf}
+use Rattle.records.proofs.Flags.{eq-cases, lt-cases, le-cases}
+use Rattle.records.proofs.WalkLaws.{walk, walk-next, sound-walks, step-inner}
+use Rattle.records.proofs.RunLaws.{begins-run}
+use Rattle.records.proofs.WordLaws.{page-free, page-edge}
+use Rattle.records.proofs.AdmitLaws.{admitted, refused, served}
+use Rattle.blocks.specs.Blocks.{live}
+use Rattle.totals.specs.declared.Tally.{Tally}
+use Rattle.totals.specs.declared.Sums.{Sums}
+use Rattle.totals.specs.Totals.{tallyOf, sum, freeOf, freePages, runPages, totalled, tallied, totalsOf}
+use Rattle.totals.specs.Means.{TotalsMean}
+use Rattle.totals.proofs.TallyLaws.{digit-set}
+
+-- ---- free pages are those whose page bit is 0
+
+-- what holds of each kind that the word of a taken page other than page 0 can mean
+plain-kind : (P : Kind → Type 0) → P damaged → ((k : ℕ) → P (large k)) → ((b : ℕ) → P (class b)) → ((w : ℕ) → P (inner w)) → (w : ℕ)
+    → P (kindOf false true w)
+plain-kind P d l c i w =
+    le-cases P 0xC0000000 w (λ x. i w)
+    (λ x. le-cases P 0x80000000 w (λ y. lt-cases P w 0x8000001E (λ z. c (w - 0x80000000)) (λ z. d))
+    (λ y. le-cases P 0x40000001 w (λ z. lt-cases P w 0x40000200 (λ u. l (w - 0x40000001)) (λ u. d)) (λ z. eq-cases P w 0 (λ u. i w) (λ u. d))))
+
+taken-not-free : (v : Bool) (w : ℕ) → freeOf (kindOf v true w) ≡ 0
+taken-not-free true w = eq-cases (λ (k : Kind). freeOf k ≡ 0) w 0x40000001 (λ e. refl) (λ e. refl)
+taken-not-free false w = plain-kind (λ (k : Kind). freeOf k ≡ 0) refl (λ k. refl) (λ b. refl) (λ x. refl) w
+
+module _ (c : ℕ) (p : Pool) (s : sound c p ≡ true) where
+  page-bit : (g : ℕ) → g < 512 * c → freeOf (kindAt p g) + bitAt (p .bits) g ≡ 1
+  unfolding kindAt
+  page-bit g l = ap (λ (x : ℕ). freeOf (kindAt p g) + x) (sym (digit-set (p .bits) g)) ∙ go (isSet (p .bits) g) refl
+    where
+      go : (v : Bool) → isSet (p .bits) g ≡ v → freeOf (kindAt p g) + digit (isSet (p .bits) g) ≡ 1
+      go true e =
+          ap (λ (t : Bool). freeOf (kindOf (isEdge g) t (getD (p .words) g 0)) + digit t) e
+          ∙ ap (λ (x : ℕ). x + 1) (taken-not-free (isEdge g) (getD (p .words) g 0))
+      go false e = ap₂ (λ (k : Kind) (t : Bool). freeOf k + digit t) (page-free c p s g l e) e
+
+  free-count : (i n : ℕ) → i + n ≤ 512 * c → sum (λ g. freeOf (kindAt p g)) i n + countBits (p .bits) i n ≡ n
+  unfolding sum countBits
+  free-count i zero l = refl
+  free-count i (suc n) l =
+      let r : suc i ≡ i + 1 = omega arith in
+      let h : sum (λ g. freeOf (kindAt p g)) (suc i) n + countBits (p .bits) (i + 1) n ≡ n =
+      ap (λ (x : ℕ). sum (λ g. freeOf (kindAt p g)) (suc i) n + countBits (p .bits) x n) (sym r) ∙ free-count (suc i) n (omega arith) in
+      let b = page-bit i (omega arith) in omega arith
+
+-- ---- the totals
+
+pub free-read : (c : ℕ) (p : Pool) → admitOf c p ≡ 0 → (n t : ℕ) → n ≡ 512 * c → t ≡ countBits (p .bits) 0 n → n ≡ t + freePages c p
+unfolding freePages
+free-read c p ok n t e f =
+    let h = free-count c p (admitted c p ok .whole) 0 (512 * c) (omega arith) in
+    let g : t ≡ countBits (p .bits) 0 (512 * c) = f ∙ ap (countBits (p .bits) 0) e in omega arith
+
+pub totals-made : (c : ℕ) (p : Pool) {t : Tally} (m n k f : ℕ) → t ≡ tallyOf (live c p) → m ≡ t .blocks → n ≡ t .bytes → f ≡ k → k ≡ freePages c p
+    → totalled 0 m n f ≡ tallied c p
+unfolding tallied tallyOf
+totals-made c p m n k f e x y z w =
+    let a = x ∙ ap (λ (t : Tally). t .blocks) e in
+    let b = y ∙ ap (λ (t : Tally). t .bytes) e in
+    ap₂ (λ (u v : ℕ). totalled 0 u v f) a b ∙ ap (totalled 0 _ _) (z ∙ w)
+
+-- behind the check
+module _ (c : ℕ) (p : Pool) (n : ℕ) (e : n ≡ admitOf c p) where
+  pub totals-refused : n ≢ 0 → totalled n 0 0 0 ≡ totalsOf c p
+  unfolding totalsOf
+  totals-refused z = refused (admitOf c p) n (λ r. totalled r 0 0 0) (tallied c p) e z
+
+  pub totals-served : n ≡ 0 → {x : Sums} → x ≡ tallied c p → x ≡ totalsOf c p
+  unfolding totalsOf
+  totals-served z f = f ∙ served (admitOf c p) n (λ r. totalled r 0 0 0) (tallied c p) e z
+
+-- ---- each page is free, in a run, or page 0 of its chunk
+
+-- 1 for page 0 of a chunk
+abbrev edgeOf : Kind → ℕ
+edgeOf edge = 1
+edgeOf free = 0
+edgeOf damaged = 0
+edgeOf (large k) = 0
+edgeOf (class b) = 0
+edgeOf (inner w) = 0
+
+-- A run's pages count where it begins: the pages whose words are due have been counted
+page-share : (st : List ℕ) (k : Kind) (due : List ℕ) → step st k ≡ some due → freeOf k + spanOf k + edgeOf k + length st ≡ suc (length due)
+page-share [] edge due e = let n : 0 ≡ length due = ap length (Option·some-injective _ _ e) in omega arith
+page-share [] free due e = let n : 0 ≡ length due = ap length (Option·some-injective _ _ e) in omega arith
+page-share [] damaged due e = absurd (Option·none-ne-some due e)
+page-share [] (large k) due e = let l = begins-run (large k) due e (omega arith) in omega arith
+page-share [] (class b) due e = let l = begins-run (class b) due e (omega arith) in omega arith
+page-share [] (inner w) due e = absurd (Option·none-ne-some due e)
+page-share (w ∷ ws) k due e =
+    let (p, q) = step-inner w ws k due e in
+    let l : length due ≡ length ws = ap length q in
+    let s : freeOf k + spanOf k + edgeOf k ≡ 0 = ap (λ (j : Kind). freeOf j + spanOf j + edgeOf j) p in omega arith
+
+walk-share : (K : ℕ → Kind) (n : ℕ) (st : List ℕ) (g : ℕ) → walk K st g n ≡ true
+    → sum (λ i. freeOf (K i)) g n + sum (λ i. spanOf (K i)) g n + sum (λ i. edgeOf (K i)) g n + length st ≡ n
+unfolding walk sum
+walk-share K zero [] g h = refl
+walk-share K zero (w ∷ ws) g h = absurd (false≢true h)
+walk-share K (suc n) st g h =
+    let s = walk-next K st g n h in
+    let a = page-share st (K g) (s .due) (s .steps) in
+    let b = walk-share K n (s .due) (suc g) (s .walks) in omega arith
+
+-- page 0 is every 512th page
+not-edge : (t : Bool) (w : ℕ) → edgeOf (kindOf false t w) ≡ 0
+not-edge false w = eq-cases (λ (k : Kind). edgeOf k ≡ 0) w 0 (λ e. refl) (λ e. refl)
+not-edge true w = plain-kind (λ (k : Kind). edgeOf k ≡ 0) refl (λ k. refl) (λ b. refl) (λ x. refl) w
+
+module _ (c : ℕ) (p : Pool) (s : sound c p ≡ true) where
+  page-first : (g : ℕ) → g < 512 * c → edgeOf (kindAt p g) + (g + 511) / 512 ≡ (suc g + 511) / 512
+  unfolding kindAt isEdge
+  page-first g l =
+      by-cases (ℕ-discrete (g % 512) 0)
+      (λ e. let h : edgeOf (kindAt p g) ≡ 1 = ap edgeOf (page-edge c p s g l e) in omega arith)
+      (λ e. let h : edgeOf (kindAt p g) ≡ 0 =
+      ap (λ (v : Bool). edgeOf (kindOf v (isSet (p .bits) g) (getD (p .words) g 0))) (ne-eqb (g % 512) 0 e)
+      ∙ not-edge (isSet (p .bits) g) (getD (p .words) g 0) in omega arith)
+
+  edge-count : (g n : ℕ) → g + n ≤ 512 * c → sum (λ i. edgeOf (kindAt p i)) g n + (g + 511) / 512 ≡ (g + n + 511) / 512
+  unfolding sum
+  edge-count g zero l = omega arith
+  edge-count g (suc n) l =
+      let a = page-first g (omega arith) in
+      let b = edge-count (suc g) n (omega arith) in
+      omega arith
+
+  pub pages-add : freePages c p + runPages c p + c ≡ 512 * c
+  unfolding freePages runPages
+  pages-add =
+      let a = walk-share (kindAt p) (512 * c) [] 0 (sound-walks c p s .walks) in
+      let b = edge-count 0 (512 * c) (omega arith) in omega arith
+
+pub totals-mean : TotalsMean
+totals-mean = record { pages = λ c p g. pages-add c p (g .whole) }

@@ -1,0 +1,83 @@
+-- `totals::tally_live` meets its contract. Assumes nothing.
+use borrow.Author.Needs.{needs}
+use mathlib.Core.Path.{_≡_, refl}
+use Prim.Native.Nat.{_-_, _*_, _≤_}
+use native.Mathlib.Omega.{arith}
+use Rattle.records.specs.Pool.{pool}
+use Rattle.records.proofs.AdmitLaws.{admitted}
+use Rattle.totals.proofs.TallyLaws.{row-read, Counted, counted-start, counted-on, counted-done, bounded}
+use Rattle.totals.proofs.tally_live.Statement.{statement}
+use Rattle.totals.proofs.tally_live.Tie as tie
+
+abbrev Inv-loop : tie.InvT-loop
+Inv-loop c bits words slots table n blocks₀ bytes₀ g₀ blocks bytes g = (g ≤ n) × (n ≡ 512 * c) × Counted c (pool bits words slots) g blocks bytes
+
+abbrev μ-loop : tie.MeasureT-loop
+μ-loop c bits words slots table n blocks₀ bytes₀ g₀ blocks bytes g = n - g
+
+class-rows-requires : tie.Need-class-rows-requires Inv-loop μ-loop
+class-rows-requires c κs = search needs
+
+mul-n : tie.Need-mul-n Inv-loop μ-loop
+mul-n c = let s = admitted _ _ (c .before .before .before .before .pre) .shape in record { fits = omega arith }
+
+loop-holds : tie.Need-loop-holds Inv-loop μ-loop
+loop-holds c = (omega arith, refl, counted-start _ _)
+
+mul-class-at : tie.Need-mul-class-at Inv-loop μ-loop
+mul-class-at c = let s = admitted _ _ (c .before .before .before .before .before .before .pre) .shape in record { fits = omega arith }
+
+shared-slice-read-class-at : tie.Need-shared-slice-read-class-at Inv-loop μ-loop
+shared-slice-read-class-at c = let s = admitted _ _ (c .before .before .before .before .before .before .before .pre) .shape in omega arith
+
+class-at-requires : tie.Need-class-at-requires Inv-loop μ-loop
+class-at-requires c κs = search needs
+
+mul-row : tie.Need-mul-row Inv-loop μ-loop
+mul-row c = search needs
+
+array-copy-out-row : tie.Need-array-copy-out-row Inv-loop μ-loop
+array-copy-out-row c = search needs
+
+page-tally-requires : tie.Need-page-tally-requires Inv-loop μ-loop
+page-tally-requires c κs = (c .before .before .before .before .before .before .before .before .before .pre, omega arith, row-read _ _ _ _ (c .before .before .before .before .before .class-rows .ensures) refl (c .before .class-at .ensures))
+
+add-blocks : tie.Need-add-blocks Inv-loop μ-loop
+add-blocks c = let b = bounded _ _ (c .before .before .before .before .before .before .before .before .before .before .before .pre) in let s = admitted _ _ (c .before .before .before .before .before .before .before .before .before .before .before .pre) .shape in let o = counted-on (c .before .before .before .before .before .before .loop .inv .2) (omega arith) (c .before .page-tally .ensures) in let a = o .number in record { fits = omega arith }
+
+add-bytes : tie.Need-add-bytes Inv-loop μ-loop
+add-bytes c = let b = bounded _ _ (c .before .before .before .before .before .before .before .before .before .before .before .before .pre) in let s = admitted _ _ (c .before .before .before .before .before .before .before .before .before .before .before .before .pre) .shape in let o = counted-on (c .before .before .before .before .before .before .before .loop .inv .2) (omega arith) (c .before .before .page-tally .ensures) in let a = o .sum in record { fits = omega arith }
+
+add-g : tie.Need-add-g Inv-loop μ-loop
+add-g c = let s = admitted _ _ (c .before .before .before .before .before .before .before .before .before .before .before .before .pre) .shape in record { fits = omega arith }
+
+loop-less : tie.Need-loop-less Inv-loop μ-loop
+loop-less c = search needs
+
+loop-again : tie.Need-loop-again Inv-loop μ-loop
+loop-again c = (omega arith, c .before .before .before .before .before .before .before .loop .inv .1, counted-on (c .before .before .before .before .before .before .before .loop .inv .2) (omega arith) (c .before .before .page-tally .ensures))
+
+returns : tie.Need-returns Inv-loop μ-loop
+returns c = counted-done (c .before .loop .inv .2) (omega arith)
+
+pub tally-live-spec : {M : Type 1} → statement M
+tally-live-spec =
+    tie.close
+    (tie.spec
+    Inv-loop
+    μ-loop
+    class-rows-requires
+    mul-n
+    loop-holds
+    mul-class-at
+    shared-slice-read-class-at
+    class-at-requires
+    mul-row
+    array-copy-out-row
+    page-tally-requires
+    add-blocks
+    add-bytes
+    add-g
+    loop-less
+    loop-again
+    returns)

@@ -1,0 +1,45 @@
+-- `totals::totals_sound` meets its contract. Assumes nothing.
+use mathlib.Core.Path.{refl}
+use native.Mathlib.Omega.{arith}
+use Rattle.records.proofs.AdmitLaws.{admitted}
+use Rattle.totals.proofs.PageLaws.{free-read, totals-made}
+use borrow.Author.Needs.{needs}
+use Rattle.totals.proofs.totals_sound.Statement.{statement}
+use Rattle.totals.proofs.totals_sound.Tie as tie
+
+tally-live-requires : tie.Need-tally-live-requires
+tally-live-requires c κs = search needs
+
+mul-n : tie.Need-mul-n
+mul-n c = let s = admitted _ _ (c .before .before .before .before .pre) .shape in record { fits = omega arith }
+
+count-bits-requires : tie.Need-count-bits-requires
+count-bits-requires c κs = let s = admitted _ _ (c .before .before .before .before .pre) .shape in (omega arith, omega arith)
+
+wide64-requires : tie.Need-wide64-requires
+wide64-requires c κs = search needs
+
+wide64-requires-2 : tie.Need-wide64-requires-2
+wide64-requires-2 c κs = search needs
+
+sub-wide64 : tie.Need-sub-wide64
+sub-wide64 c = let h = free-read _ _ (c .before .before .before .before .before .before .before .pre) _ _ refl (c .before .before .count-bits .ensures) in omega arith
+
+wide64-requires-3 : tie.Need-wide64-requires-3
+wide64-requires-3 c κs = search needs
+
+returns : tie.Need-returns
+returns c = let h = free-read _ _ (c .before .before .before .before .before .before .before .before .pre) _ _ refl (c .before .before .before .count-bits .ensures) in totals-made _ _ _ _ _ _ (c .before .before .before .before .tally-live .ensures) (c .before .before .wide64 .ensures) (c .before .wide642 .ensures) (c .wide643 .ensures) (omega arith)
+
+pub totals-sound-spec : {M : Type 1} → statement M
+totals-sound-spec =
+    tie.close
+    (tie.spec
+    tally-live-requires
+    mul-n
+    count-bits-requires
+    wide64-requires
+    wide64-requires-2
+    sub-wide64
+    wide64-requires-3
+    returns)
