@@ -143,3 +143,6 @@ first-of (suc n) ws i v d =
 pub next-first : (ws : List ℕ) (from to v : ℕ) → v < 2 → from ≤ to → First ws from to v (nextBit v ws from (to - from))
 next-first ws from to v d l =
     subst (λ (e : ℕ). First ws from e v (nextBit v ws from (to - from))) (add-sub-of-le l) (first-of (to - from) ws from v d)
+
+pub first-at : (ws : List ℕ) (from to v r : ℕ) → v < 2 → from ≤ to → r ≡ nextBit v ws from (to - from) → First ws from to v r
+first-at ws from to v r d l e = subst (First ws from to v) (sym e) (next-first ws from to v d l)

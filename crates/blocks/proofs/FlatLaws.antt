@@ -1,9 +1,9 @@
 -- Lists of blocks that are gathered number by number: equal ones, empty ones, and two that differ by one block. Assumes nothing.
-use mathlib.Core.Path.{_≡_, refl, ap, ap₂}
+use mathlib.Core.Path.{_≡_, refl, sym, ap, ap₂, _∙_}
 use mathlib.Core.Logic.{_≢_}
 use mathlib.Core.Bool.{Bool}
-use mathlib.Core.List.{List, [], _∷_, _++_}
-use Prim.Native.Nat.{ℕ, zero, suc, _+_, _≤_, _<_}
+use mathlib.Core.List.{List, [], _∷_, _++_, append-assoc}
+use Prim.Native.Nat.{ℕ, zero, suc, _+_, _-_, _≤_, _<_}
 use native.Mathlib.Decide.{ℕ-discrete}
 use native.Mathlib.Omega.{arith}
 use Rattle.classes.specs.Classes.{slots}
@@ -29,6 +29,32 @@ pub flat-nil : (f : ℕ → List Block) (g n : ℕ) → ((i : ℕ) → g ≤ i �
 unfolding flat
 flat-nil f g zero h = refl
 flat-nil f g (suc n) h = rw (h g (omega arith) (omega arith)) (flat-nil f (suc g) n (λ i a c. h i (omega arith) (omega arith)))
+
+pub flat-over : (f : ℕ → List Block) (i n : ℕ) → n ≡ 0 → flat f i n ≡ []
+unfolding flat
+flat-over f i n e = ap (flat f i) e
+
+pub flat-step : (f : ℕ → List Block) (i n m : ℕ) → n ≡ suc m → flat f i n ≡ f i ++ flat f (i + 1) m
+unfolding flat
+flat-step f i n m e =
+    let q : suc i ≡ i + 1 = omega arith in
+    ap (flat f i) e ∙ ap (λ (k : ℕ). f i ++ flat f k m) q
+
+-- in two parts
+pub flat-split : (f : ℕ → List Block) (m n k i j : ℕ) → m + n ≡ k → i + m ≡ j → flat f i k ≡ flat f i m ++ flat f j n
+unfolding flat
+flat-split f zero n k i j e h =
+    let a : i ≡ j = omega arith in let b : k ≡ n = omega arith in ap₂ (λ (x y : ℕ). flat f x y) a b
+flat-split f (suc m) n zero i j e h = absurd (omega arith)
+flat-split f (suc m) n (suc k) i j e h =
+    ap (λ (l : List Block). f i ++ l) (flat-split f m n k (suc i) j (omega arith) (omega arith))
+    ∙ sym (append-assoc (f i) (flat f (suc i) m) (flat f j n))
+
+-- numbers that give no block are passed
+pub flat-drop : (f : ℕ → List Block) (i j k n : ℕ) → i ≤ j → j + n ≡ i + k → ((m : ℕ) → i ≤ m → m < j → f m ≡ []) → flat f i k ≡ flat f j n
+flat-drop f i j k n a e h =
+    flat-split f (j - i) n k i j (omega arith) (omega arith)
+    ∙ ap (λ (l : List Block). l ++ flat f j n) (flat-nil f i (j - i) (λ m x y. h m x (omega arith)))
 
 -- one block more at one number is one block more in all
 pub flat-ins : (f f′ : ℕ → List Block) (b : Block) (k g n : ℕ) → g ≤ k → k < g + n → Ins b (f k) (f′ k)

@@ -1,8 +1,8 @@
 -- The live blocks of one page, and of the pages from one on. Assumes nothing.
-use mathlib.Core.Path.{_≡_, refl, sym, ap, ap₂, _∙_}
+use mathlib.Core.Path.{_≡_, refl, sym, ap, _∙_}
 use mathlib.Core.Bool.{Bool, true, false}
-use mathlib.Core.List.{List, [], _++_, append-assoc}
-use Prim.Native.Nat.{ℕ, zero, suc, _+_, _-_, _*_, _%_, _≤_, _<_}
+use mathlib.Core.List.{List, [], _++_}
+use Prim.Native.Nat.{ℕ, _+_, _-_, _*_, _%_, _≤_, _<_}
 use native.Mathlib.Omega.{arith}
 use lib.ListN.{getD}
 use borrow.Author.Tests.{eq-eqb}
@@ -11,35 +11,7 @@ use Rattle.records.specs.Kinds.{Kind, kindOf}
 use Rattle.records.specs.Pool.{Pool, isEdge, kindAt, slotAt}
 use Rattle.records.proofs.Flags.{eq-cases, le-cases}
 use Rattle.blocks.specs.Blocks.{Block, flat, blocksAt, pageBlocks, live}
-use Rattle.blocks.proofs.FlatLaws.{flat-nil}
-
--- ---- blocks gathered number by number
-
-pub flat-over : (f : ℕ → List Block) (i n : ℕ) → n ≡ 0 → flat f i n ≡ []
-unfolding flat
-flat-over f i n e = ap (flat f i) e
-
-pub flat-step : (f : ℕ → List Block) (i n m : ℕ) → n ≡ suc m → flat f i n ≡ f i ++ flat f (i + 1) m
-unfolding flat
-flat-step f i n m e =
-    let q : suc i ≡ i + 1 = omega arith in
-    ap (flat f i) e ∙ ap (λ (k : ℕ). f i ++ flat f k m) q
-
--- in two parts
-pub flat-split : (f : ℕ → List Block) (m n k i j : ℕ) → m + n ≡ k → i + m ≡ j → flat f i k ≡ flat f i m ++ flat f j n
-unfolding flat
-flat-split f zero n k i j e h =
-    let a : i ≡ j = omega arith in let b : k ≡ n = omega arith in ap₂ (λ (x y : ℕ). flat f x y) a b
-flat-split f (suc m) n zero i j e h = absurd (omega arith)
-flat-split f (suc m) n (suc k) i j e h =
-    ap (λ (l : List Block). f i ++ l) (flat-split f m n k (suc i) j (omega arith) (omega arith))
-    ∙ sym (append-assoc (f i) (flat f (suc i) m) (flat f j n))
-
--- numbers that give no block are passed
-pub flat-drop : (f : ℕ → List Block) (i j k n : ℕ) → i ≤ j → j + n ≡ i + k → ((m : ℕ) → i ≤ m → m < j → f m ≡ []) → flat f i k ≡ flat f j n
-flat-drop f i j k n a e h =
-    flat-split f (j - i) n k i j (omega arith) (omega arith)
-    ∙ ap (λ (l : List Block). l ++ flat f j n) (flat-nil f i (j - i) (λ m x y. h m x (omega arith)))
+use Rattle.blocks.proofs.FlatLaws.{flat-over, flat-step}
 
 -- ---- pages at which no block begins
 

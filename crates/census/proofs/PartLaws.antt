@@ -1,24 +1,23 @@
 -- The blocks of a run's slots, of a page and of all pages, read upward. Assumes nothing.
-use mathlib.Core.Path.{_≡_, sym, ap, _∙_, subst}
+use mathlib.Core.Path.{_≡_, sym, ap, _∙_}
 use mathlib.Core.Logic.{_≢_}
 use mathlib.Core.Bool.{Bool, true}
 use mathlib.Core.List.{List, [], _∷_, _++_}
 use Prim.Native.Nat.{ℕ, suc, _+_, _-_, _*_, _%_, _≤_, _<_}
-use native.Mathlib.Nat.{mul-le-mul-right, mul-le-mul-left}
 use native.Mathlib.Omega.{arith}
 use lib.ListN.{length, getD}
 use Rattle.bitrow.specs.Row.{bitAt, isSet, nextBit}
-use Rattle.bitrow.proofs.Rows.{First, next-first}
+use Rattle.bitrow.proofs.Rows.{first-at}
 use Rattle.bitrow.proofs.Marks.{one-set, zero-clear}
-use Rattle.classes.specs.declared.Row.{Row}
-use Rattle.classes.specs.Classes.{rowAt, size, slots}
-use Rattle.classes.proofs.ClassLaws.{row-facts}
+use Rattle.classes.specs.Classes.{slots}
+use Rattle.classes.proofs.ClassLaws.{Cut}
 use Rattle.records.specs.Kinds.{large, class}
 use Rattle.records.specs.Pool.{Pool, slotAt}
 use Rattle.records.specs.Sound.{sound}
 use Rattle.records.proofs.WordLaws.{page-class, page-large}
 use Rattle.blocks.specs.Blocks.{Block, slotBlock, when, pageBlocks}
-use Rattle.blocks.proofs.PageLaws.{flat-over, flat-step, flat-drop, kind-blocks, liveFrom, from-step}
+use Rattle.blocks.proofs.FlatLaws.{flat-over, flat-step, flat-drop}
+use Rattle.blocks.proofs.PageLaws.{kind-blocks, liveFrom, from-step}
 use Rattle.census.specs.Writes.{block, slotBlocks, NextTaken, Wrote}
 use Rattle.census.proofs.WriteLaws.{Writing, writing-as, writing-on, writing-room, wrote-as}
 
@@ -28,8 +27,7 @@ use Rattle.census.proofs.WriteLaws.{Writing, writing-as, writing-on, wr
 pub next-is : (bits : List ℕ) (g s n r : ℕ) → s ≤ n → r ≡ nextBit 1 bits (512 * g + s) (512 * g + n - (512 * g + s))
     → (512 * g ≤ r) × NextTaken bits g s n (r - 512 * g)
 next-is bits g s n r h e =
-    let f : First bits (512 * g + s) (512 * g + n) 1 r =
-    subst (First bits (512 * g + s) (512 * g + n) 1) (sym e) (next-first bits (512 * g + s) (512 * g + n) 1 (omega arith) (omega arith)) in
+    let f = first-at bits (512 * g + s) (512 * g + n) 1 r (omega arith) (omega arith) e in
     let a = f .low in
     let b = f .high in (
       omega arith,
@@ -61,30 +59,6 @@ module _ (bits : List ℕ) (g b : ℕ) where
   pub slots-over : (s n : ℕ) → n ≤ s → slotBlocks bits g b s (n - s) ≡ []
   unfolding slotBlocks
   slots-over s n l = flat-over (λ i. when (isSet bits (512 * g + i)) (slotBlock g b i)) s (n - s) (omega arith)
-
--- the numbers of class b, as they were read from its row
-pub record Cut (b z n : ℕ) : Type 0 where
-  pub size-is : z ≡ size b
-  pub slots-is : n ≡ slots b
-  pub few : n ≤ 512
-  pub small : z ≤ 3072
-
-pub cut : {b z n : ℕ} {r : Row} → b < 30 → r ≡ rowAt b → z ≡ r .size → n ≡ r .slots → Cut b z n
-cut {b} l e f g =
-    let h = row-facts b l in
-    let x = f ∙ ap (λ (r : Row). r .size) e in
-    let y = g ∙ ap (λ (r : Row). r .slots) e in
-    record { size-is = x; slots-is = y; few = omega arith; small = omega arith }
-
--- a slot's place lies in its run
-pub offset-small : {b z n s : ℕ} → Cut b z n → s < n → s * z ≤ 1572864
-offset-small {b} {z} {n} {s} k l =
-    let f = k .few in
-    let h = k .small in
-    let m : s ≤ 512 = omega arith in
-    let x = mul-le-mul-right z m in
-    let y = mul-le-mul-left 512 h in
-    omega arith
 
 -- ---- the turns of the loop over the slots
 

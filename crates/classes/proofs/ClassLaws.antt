@@ -1,11 +1,12 @@
 -- Laws of the size classes, for the proofs of their callers.
 -- Assumes nothing.
-use mathlib.Core.Path.{_≡_, refl, ap}
+use mathlib.Core.Path.{_≡_, refl, ap, _∙_}
 use mathlib.Core.Logic.{by-cases}
 use mathlib.Core.Bool.{Bool, true, false, cond}
 use mathlib.Core.List.{List, [], _∷_}
 use Prim.Native.Nat.{ℕ, zero, suc, _+_, _*_, _-_, _≤_, _<_}
 use native.Mathlib.Decide.{decLt}
+use native.Mathlib.Nat.{mul-le-mul-right}
 use native.Mathlib.Omega.{arith}
 use borrow.Author.Tests.{leb-true, leb-false}
 use lib.Dec.{T, leb, ltb, eqb, leb→le, ltb→lt, eqb→eq, lit<}
@@ -77,6 +78,39 @@ pub any-row : (b : ℕ) → AnyRow b
 unfolding rows rowAt
 any-row b =
     by-cases (decLt b 30) (λ h. some-row b (row-facts b h)) (λ h. no-row b (List·getD-eq-default rows (rowOf 0 0 0) {n = b} (omega arith)))
+
+-- ---- a class's numbers, as they were read from its row
+
+pub size-read : (b : ℕ) {z : ℕ} {r : Row} → r ≡ rowAt b → z ≡ r .size → z ≡ size b
+size-read b e f = f ∙ ap (λ (r : Row). r .size) e
+
+pub slots-read : (b : ℕ) {n : ℕ} {r : Row} → r ≡ rowAt b → n ≡ r .slots → n ≡ slots b
+slots-read b e f = f ∙ ap (λ (r : Row). r .slots) e
+
+pub pages-read : (b : ℕ) {n : ℕ} {r : Row} → r ≡ rowAt b → n ≡ r .pages → n ≡ pages b
+pages-read b e f = f ∙ ap (λ (r : Row). r .pages) e
+
+-- a run of class b is cut into n slots of size z
+pub record Cut (b z n : ℕ) : Type 0 where
+  pub size-is : z ≡ size b
+  pub slots-is : n ≡ slots b
+
+pub cut : {b z n : ℕ} {r : Row} → r ≡ rowAt b → z ≡ r .size → n ≡ r .slots → Cut b z n
+cut {b} e f g = record { size-is = size-read b e f; slots-is = slots-read b e g }
+
+pub cut-some : {b z : ℕ} {r : Row} → r ≡ rowAt b → z ≡ r .size → b < 30 → 0 < z
+cut-some {b} e f l = let h = row-facts b l in let g = size-read b e f in omega arith
+
+pub cut-few : {b z n : ℕ} → Cut b z n → n ≤ 512
+cut-few {b} k = let f = any-row b .slots-most in let e = k .slots-is in omega arith
+
+-- a slot lies in the pages of its run
+pub cut-offset : {b z n s : ℕ} → Cut b z n → s < n → s * z ≤ 28672
+cut-offset {b} {z} {n} {s} k l =
+    let f = any-row b in let e = k .slots-is in
+    let a = f .fit in let d = f .pages-most in
+    let m : s * size b ≤ slots b * size b = mul-le-mul-right (size b) (omega arith) in
+    rw (k .size-is) (omega arith)
 
 -- ---- the smallest class that holds a size
 

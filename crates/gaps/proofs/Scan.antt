@@ -11,7 +11,7 @@ use borrow.Author.Tests.{le-leb, lt-leb, lt-ltb, le-ltb, eq-eqb, ne-eqb}
 use lib.Dec.{ltb, lit<}
 use Rattle.bitrow.specs.Row.{bitAt, nextBit}
 use Rattle.bitrow.proofs.Words.{v-or-other}
-use Rattle.bitrow.proofs.Rows.{bit-at-le, First, next-first}
+use Rattle.bitrow.proofs.Rows.{bit-at-le, First, first-at}
 use Rattle.gaps.specs.declared.Gap.{Gap}
 use Rattle.gaps.specs.declared.Found.{Found}
 use Rattle.gaps.specs.declared.Found.the-variants.{At, Nothing}
@@ -94,13 +94,13 @@ module _ (bits : List ℕ) where
 
   -- a search stays between its bounds
   pub reached : (v p to r : ℕ) → v < 2 → p ≤ to → r ≡ nextBit v bits p (to - p) → (p ≤ r) × (r ≤ to)
-  reached v p to r d l e = let f = next-first bits p to v d l in (omega (arith, f .low), omega (arith, f .high))
+  reached v p to r d l e = let f = first-at bits p to v r d l e in (f .low, f .high)
 
   pub next-gap : (p to a e : ℕ) → p < to → a ≡ nextBit 0 bits p (to - p) → e ≡ nextBit 1 bits a (to - a)
       → NextGap bits p to (gap a (e - a))
   next-gap p to a e l ea ee =
-      let f : First bits p to 0 a = subst (First bits p to 0) (sym ea) (next-first bits p to 0 (lit< tt) (omega arith)) in
-      let s : First bits a to 1 e = subst (First bits a to 1) (sym ee) (next-first bits a to 1 (lit< tt) (f .high)) in
+      let f = first-at bits p to 0 a (lit< tt) (omega arith) ea in
+      let s = first-at bits a to 1 e (lit< tt) (f .high) ee in
       let fl = f .low in
       let sl = s .low in
       let there : e ≡ a + (e - a) = omega arith in

@@ -5,23 +5,23 @@ use mathlib.Core.Bool.{Bool, true, false}
 use mathlib.Core.List.{List, [], _++_}
 use Prim.Native.Nat.{ℕ, zero, suc, _+_, _-_, _*_, _%_, _≤_, _<_}
 use native.Mathlib.Decide.{decLt}
-use native.Mathlib.Nat.{mul-le-mul-right}
 use native.Mathlib.Omega.{arith}
 use Rattle.bitrow.specs.Row.{bitAt, nextBit}
-use Rattle.bitrow.proofs.Rows.{First, next-first}
+use Rattle.bitrow.proofs.Rows.{First, first-at}
 use Rattle.bitrow.proofs.Marks.{one-set, zero-clear}
 use Rattle.classes.specs.Classes.{size, slots}
-use Rattle.classes.proofs.ClassLaws.{any-row, row-facts}
+use Rattle.classes.proofs.ClassLaws.{Cut, cut-few, cut-offset}
 use Rattle.records.specs.Kinds.{Kind, edge, free, damaged, large, class, inner}
 use Rattle.records.specs.Pool.{Pool, kindAt, slotAt}
 use Rattle.records.specs.Calls.{admitOf}
 use Rattle.records.specs.Runs.{spanOf}
 use Rattle.records.proofs.WalkLaws.{sound-walks}
-use Rattle.records.proofs.RunLaws.{walk-run, class-at-low}
+use Rattle.records.proofs.RunLaws.{walk-run}
 use Rattle.records.proofs.WordLaws.{page-edge, page-free}
 use Rattle.records.proofs.AdmitLaws.{admitted}
 use Rattle.blocks.specs.Blocks.{Block, slotBlock, flat, when, live, pageBlocks}
-use Rattle.blocks.proofs.PageLaws.{flat-drop, kind-blocks}
+use Rattle.blocks.proofs.FlatLaws.{flat-drop}
+use Rattle.blocks.proofs.PageLaws.{kind-blocks}
 use Rattle.next.specs.declared.Found.the-variants.{At, Nothing}
 use Rattle.next.specs.declared.Begun.{Begun}
 use Rattle.next.specs.Next.{firstFrom}
@@ -30,11 +30,8 @@ use Rattle.next.proofs.PageLaws.{blocks-from-0}
 
 -- ---- bits that the search passed, and the one where it stopped
 
-first-of : (ws : List ℕ) (i e x : ℕ) → i ≤ e → x ≡ nextBit 1 ws i (e - i) → First ws i e 1 x
-first-of ws i e x l r = subst (First ws i e 1) (sym r) (next-first ws i e 1 (omega arith) l)
-
 pub next-low : (ws : List ℕ) (i e x : ℕ) → i ≤ e → x ≡ nextBit 1 ws i (e - i) → (i ≤ x) × (x ≤ e)
-next-low ws i e x l r = let f = first-of ws i e x l r in (f .low, f .high)
+next-low ws i e x l r = let f = first-at ws i e 1 x (omega arith) l r in (f .low, f .high)
 
 -- ---- what is left, from a page on
 
@@ -64,12 +61,11 @@ class-here p g {s} {r} e l = go (kindAt p g) refl e
     go (class b) x f = (b, x, ap (λ (y : Begun). y .count) f, ap (λ (y : Begun). y .size) f)
     go (inner w) x f = let m = ap (λ (y : Begun). y .count) f in absurd (omega arith)
 
-pub few-slots : (p : Pool) (g : ℕ) {s : ℕ} {r : Begun} → r ≡ begunAt (kindAt p g) → s < r .count → (r .count ≤ 512) × (r .size ≤ 3072)
-few-slots p g e l = let (b, k, n, z) = class-here p g e l in let f = any-row b .slots-most in let y = row-facts b (class-at-low p g b k) .size-most in (omega arith, omega arith)
-
--- a slot's offset in its run
-pub small-offset : (s n z : ℕ) → s < n → n ≤ 512 → z ≤ 3072 → s * z ≤ 1572864
-small-offset s n z a b d = let h : s ≤ 512 = omega arith in let m = mul-le-mul-right z h in omega arith
+pub few-slots : (p : Pool) (g : ℕ) {s : ℕ} {r : Begun} → r ≡ begunAt (kindAt p g) → s < r .count
+    → (r .count ≤ 512) × ((t : ℕ) → t < r .count → t * r .size ≤ 28672)
+few-slots p g e l =
+    let (b, k, n, z) = class-here p g e l in
+    let u : Cut b _ _ = record { size-is = z; slots-is = n } in (cut-few u, λ t h. cut-offset u h)
 
 -- a large run ends inside the pool
 pub few-pages : (c : ℕ) (p : Pool) → admitOf c p ≡ 0 → (g : ℕ) {r : Begun} → g < 512 * c → r ≡ begunAt (kindAt p g) → g + r .pages ≤ 512 * c
@@ -148,7 +144,7 @@ module _ {c : ℕ} {p : Pool} {q : ℕ} where
   module _ {g s x : ℕ} {r : Begun} (a : Ahead c p q g s) (h : g < 512 * c) (e : r ≡ begunAt (kindAt p g)) (l : s < r .count)
       (w : x ≡ nextBit 1 (p .slots) (512 * g + s) (512 * g + r .count - (512 * g + s))) where
     passed : First (p .slots) (512 * g + s) (512 * g + r .count) 1 x
-    passed = first-of (p .slots) (512 * g + s) (512 * g + r .count) x (omega arith) w
+    passed = first-at (p .slots) (512 * g + s) (512 * g + r .count) 1 x (omega arith) (omega arith) w
 
     idle : (j : ℕ) → s ≤ j → j < x - 512 * g → slotAt p g j ≡ false
     unfolding slotAt
@@ -181,7 +177,7 @@ module _ {c : ℕ} {p : Pool} {q : ℕ} where
     -- free pages are passed
     pub free-passed : {g e x n : ℕ} → Ahead c p q g 0 → g ≤ e → e ≤ 512 * c → x ≡ nextBit 1 (p .bits) g (e - g) → x ≡ n → Ahead c p q n 0
     free-passed {g} {e} {x} a l m w o =
-        let f = first-of (p .bits) g e x l w in
+        let f = first-at (p .bits) g e 1 x (omega arith) l w in
         let low = f .low in let high = f .high in
         moved
         (record {

@@ -8,7 +8,7 @@ use native.Mathlib.Omega.{arith}
 use lib.ListN.{getD}
 use Rattle.classes.specs.declared.Row.{Row}
 use Rattle.classes.specs.Classes.{rowAt, size, slots}
-use Rattle.classes.proofs.ClassLaws.{row-facts}
+use Rattle.classes.proofs.ClassLaws.{size-read, slots-read, cut-some}
 use Rattle.records.specs.Pool.{Pool, kindAt}
 use Rattle.records.specs.Sound.{sound}
 use Rattle.records.specs.Calls.{admitOf}
@@ -22,19 +22,10 @@ use Rattle.next.specs.Next.{firstFrom, answered, told, nextOf}
 use Rattle.next.specs.Walk.{Least, begun, begunAt}
 use Rattle.next.proofs.StartLaws.{least}
 
--- ---- a class's row as it was read
-
-pub size-read : (b : ℕ) {z : ℕ} {r : Row} → r ≡ rowAt b → z ≡ r .size → z ≡ size b
-size-read b e f = f ∙ ap (λ (x : Row). x .size) e
-
-pub slots-read : (b : ℕ) {n : ℕ} {r : Row} → r ≡ rowAt b → n ≡ r .slots → n ≡ slots b
-slots-read b e f = f ∙ ap (λ (x : Row). x .slots) e
-
-pub size-some : (b : ℕ) {z : ℕ} {r : Row} → r ≡ rowAt b → z ≡ r .size → b < 30 → (1 ≤ z) × (z ≤ 3072)
-size-some b e f l = let h = row-facts b l in let g = size-read b e f in (omega arith, omega arith)
+-- ---- a slot, by the row as it was read
 
 pub slot-of : (b off : ℕ) {s z : ℕ} {r : Row} → r ≡ rowAt b → z ≡ r .size → b < 30 → s ≡ (off + (z - 1)) / z → Least (size b) off s
-slot-of b off {s} {z} e f l h = subst (λ (x : ℕ). Least x off s) (size-read b e f) (least z off s (size-some b e f l .0) h)
+slot-of b off {s} {z} e f l h = subst (λ (x : ℕ). Least x off s) (size-read b e f) (least z off s (cut-some e f l) h)
 
 -- ---- what starts at a page, by its word
 

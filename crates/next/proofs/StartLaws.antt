@@ -22,7 +22,8 @@ use Rattle.records.proofs.RunLaws.{walk-run, class-at-low, sound-runs}
 use Rattle.records.proofs.WordLaws.{page-word, page-class, page-edge}
 use Rattle.records.proofs.AdmitLaws.{admitted}
 use Rattle.blocks.specs.Blocks.{Block, slotBlock, flat, when, live, pageBlocks}
-use Rattle.blocks.proofs.PageLaws.{flat-split, kind-blocks}
+use Rattle.blocks.proofs.FlatLaws.{flat-split}
+use Rattle.blocks.proofs.PageLaws.{kind-blocks}
 use Rattle.next.specs.declared.Found.the-variants.{Nothing}
 use Rattle.next.specs.Next.{firstFrom}
 use Rattle.next.specs.Walk.{head, blocksFrom, rest, Ahead, Least, Started}

@@ -9,9 +9,8 @@ use native.Mathlib.Omega.{arith}
 use lib.Dec.{eqb, ltb}
 use lib.ListN.{length, getD}
 use Rattle.bitrow.specs.Row.{isSet}
-use Rattle.classes.specs.declared.Row.{Row}
-use Rattle.classes.specs.Classes.{rowAt, size, slots}
-use Rattle.classes.proofs.ClassLaws.{row-facts}
+use Rattle.classes.specs.Classes.{size, slots}
+use Rattle.classes.proofs.ClassLaws.{Cut}
 use Rattle.records.specs.Kinds.{Kind, edge, free, damaged, large, class, inner, behind}
 use Rattle.records.specs.Pool.{Pool, kindAt}
 use Rattle.records.specs.Sound.{step, sound}
@@ -161,20 +160,6 @@ module _ (c : ℕ) (p : Pool) (ok : admitOf c p ≡ 0) (q : ℕ) (l : q / 4096 <
       ap (Run (q / 4096)) r ∙ sym (cond-eq (q - 4096 * (q / 4096)) 0 _ _ (omega arith)) ∙ large-here n a b
 
 -- ---- a slot
-
--- the numbers of class b, as they were read from its row
-pub record Cut (b z n : ℕ) : Type 0 where
-  pub size-is : z ≡ size b
-  pub slots-is : n ≡ slots b
-
-pub cut : {b z n : ℕ} {r : Row} → r ≡ rowAt b → z ≡ r .size → n ≡ r .slots → Cut b z n
-cut e f g = record { size-is = f ∙ ap (λ (x : Row). x .size) e; slots-is = g ∙ ap (λ (x : Row). x .slots) e }
-
-pub cut-some : {b z : ℕ} {r : Row} → r ≡ rowAt b → z ≡ r .size → b < 30 → 0 < z
-cut-some {b} e f l = let h = row-facts b l in let g = f ∙ ap (λ (x : Row). x .size) e in omega arith
-
-pub cut-few : {b z n s : ℕ} → Cut b z n → b < 30 → s < n → s < 512
-cut-few {b} k l h = let f = row-facts b l in let e = k .slots-is in omega arith
 
 module _ (ss : List ℕ) (g b off : ℕ) {z n : ℕ} (k : Cut b z n) where
   pub slot-between : off % z ≢ 0 → Nowhere 5 ≡ slotSpot ss g b off

@@ -4,8 +4,7 @@ use mathlib.Core.Logic.{_≢_}
 use Prim.Native.Nat.{ℕ, _+_, _*_, _≤_, _<_}
 use native.Mathlib.Nat.{mul-le-mul}
 use native.Mathlib.Omega.{arith}
-use Rattle.classes.specs.declared.Row.{Row}
-use Rattle.classes.specs.Classes.{rowAt, size}
+use Rattle.classes.specs.Classes.{size}
 use Rattle.classes.proofs.ClassLaws.{row-facts}
 use Rattle.records.specs.Pool.{Pool}
 use Rattle.records.specs.Calls.{admitOf, Left, leaves}
@@ -22,10 +21,6 @@ use Rattle.reserve.proofs.PlanLaws.{plan-ok}
 use Rattle.reserve.proofs.StoreForms.{slot-few}
 
 -- ---- a slot
-
--- the class's size, as it was read and widened
-pub size-read : (b : ℕ) {x y : ℕ} {r : Row} → r ≡ rowAt b → x ≡ r .size → y ≡ x → y ≡ size b
-size-read b e f g = g ∙ f ∙ ap (λ (r : Row). r .size) e
 
 pub slot-room : {b s n z : ℕ} → b < 30 → s < 512 → n ≡ s → z ≡ size b → n * z ≤ 1569792
 slot-room {b} {s} {n} {z} l h e f =

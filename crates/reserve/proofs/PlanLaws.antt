@@ -9,8 +9,9 @@ use native.Mathlib.Omega.{arith}
 use lib.Dec.{eqb, ltb, leb}
 use lib.ListN.{getD}
 use borrow.Author.Tests.{eq-eqb, ne-eqb, eqb-true, ltb-true}
-use Rattle.bitrow.specs.Row.{bitAt, isSet, nextBit}
+use Rattle.bitrow.specs.Row.{isSet, nextBit}
 use Rattle.bitrow.proofs.Rows.{First, next-first}
+use Rattle.bitrow.proofs.Marks.{zero-clear}
 use Rattle.classes.specs.Classes.{slots, pages, classFor}
 use Rattle.classes.proofs.ClassLaws.{row-facts, class-smallest}
 use Rattle.records.specs.Kinds.{Kind, edge, free, damaged, large, class, inner}
@@ -130,14 +131,10 @@ has-free c p b g l e =
       inside = l;
       kind = k;
       slot = h;
-      clear = ap (λ (x : ℕ). eqb x 1) (free-first (p .slots) b g .here (omega arith)) ∙ ne-eqb 0 1 (omega arith);
+      clear = zero-clear (p .slots) (512 * g + freeSlot (p .slots) b g) (free-first (p .slots) b g .here (omega arith));
     }
 
 -- ---- free pages
-
-bit-free : (p : Pool) (i : ℕ) → bitAt (p .bits) i ≡ 0 → isSet (p .bits) i ≡ false
-unfolding isSet
-bit-free p i e = ap (λ (x : ℕ). eqb x 1) e ∙ ne-eqb 0 1 (omega arith)
 
 module _ (c : ℕ) (p : Pool) (s : sound c p ≡ true) where
   gap-free : (n g : ℕ) → 1 ≤ n → findPages c (p .bits) n ≡ At g → PagesFree c p g n
@@ -148,7 +145,7 @@ module _ (c : ℕ) (p : Pool) (s : sound c p ≡ true) where
         some = a;
         few = omega arith;
         inside = omega arith;
-        clear = λ i u v. page-free c p s i (omega arith) (bit-free p i (f .free i u v));
+        clear = λ i u v. page-free c p s i (omega arith) (zero-clear (p .bits) i (f .free i u v));
       }
 
   run-ok : (n : ℕ) → 1 ≤ n → PlanOk c p (planRun c (p .bits) n)

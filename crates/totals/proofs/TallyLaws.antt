@@ -14,7 +14,7 @@ use Rattle.bitrow.proofs.Rows.{bit-at-le}
 use Rattle.bitrow.proofs.Counts.{count-le}
 use Rattle.classes.specs.declared.Row.{Row}
 use Rattle.classes.specs.Classes.{rowOf, rows, rowAt, size, slots}
-use Rattle.classes.proofs.ClassLaws.{any-row}
+use Rattle.classes.proofs.ClassLaws.{any-row, size-read, slots-read}
 use Rattle.records.specs.Kinds.{Kind, edge, free, large, class, inner}
 use Rattle.records.specs.Pool.{Pool, kindAt, slotAt}
 use Rattle.records.specs.Sound.{sound}
@@ -122,21 +122,21 @@ module _ (c : ℕ) (p : Pool) (ok : admitOf c p ≡ 0) (g : ℕ) (l : g < 512 * 
   tally-class a b r s n z e f h k =
       let w : ℕ = getD (p .words) g 0 in
       let count : n ≡ countBits (p .slots) (512 * g) (slots (getD (p .words) g 0 - 0x80000000)) =
-      h ∙ ap (countBits (p .slots) (512 * g)) (f ∙ ap (λ (x : Row). x .slots) e) in
-      let bytes : z ≡ size (getD (p .words) g 0 - 0x80000000) = k ∙ ap (λ (x : Row). x .size) e in
+      h ∙ ap (countBits (p .slots) (512 * g)) (slots-read (getD (p .words) g 0 - 0x80000000) e f) in
+      let bytes : z ≡ size (getD (p .words) g 0 - 0x80000000) = size-read (getD (p .words) g 0 - 0x80000000) e k in
       ap₂ tally (count ∙ sym (slots-length (p .slots) g (getD (p .words) g 0 - 0x80000000) 0 (slots (getD (p .words) g 0 - 0x80000000)) (512 * g) (omega arith)))
       (ap₂ _*_ count bytes ∙ sym (slots-given (p .slots) g (getD (p .words) g 0 - 0x80000000) 0 (slots (getD (p .words) g 0 - 0x80000000)) (512 * g) (omega arith)))
       ∙ kind-tally p g (class (getD (p .words) g 0 - 0x80000000)) (page-class c p whole g l a b .1)
 
 -- a run's slots are few, and so are their bytes
 pub slots-few : (b : ℕ) {r : Row} {s : ℕ} → r ≡ rowAt b → s ≡ r .slots → s ≤ 512
-slots-few b e f = let h = any-row b .slots-most in let k = f ∙ ap (λ (x : Row). x .slots) e in omega arith
+slots-few b e f = let h = any-row b .slots-most in let k = slots-read b e f in omega arith
 
 pub bytes-few : (b : ℕ) {r : Row} (ss : List ℕ) (i : ℕ) {s n z : ℕ} → r ≡ rowAt b → s ≡ r .slots → n ≡ countBits ss i s → z ≡ r .size → n * z ≤ 28672
 bytes-few b {r} ss i {s} {n} {z} e f h k =
     let a = any-row b in
-    let few : s ≡ slots b = f ∙ ap (λ (x : Row). x .slots) e in
-    let big : z ≡ size b = k ∙ ap (λ (x : Row). x .size) e in
+    let few = slots-read b e f in
+    let big = size-read b e k in
     let most = count-le s ss i in
     let m : n * size b ≤ slots b * size b = mul-le-mul-right (size b) (omega arith) in
     let t = a .fit in let u = a .pages-most in

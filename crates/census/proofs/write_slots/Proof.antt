@@ -8,7 +8,8 @@ use Rattle.bitrow.specs.Row.{isSet}
 use Rattle.records.specs.Kinds.{class, slotsOf}
 use Rattle.census.specs.Writes.{slotBlocks}
 use Rattle.census.proofs.WriteLaws.{Writing, writing-none, writing-all}
-use Rattle.census.proofs.PartLaws.{Cut, cut, offset-small, slots-start, slot-room, slot-on, slots-over}
+use Rattle.classes.proofs.ClassLaws.{Cut, cut, cut-few, cut-offset}
+use Rattle.census.proofs.PartLaws.{slots-start, slot-room, slot-on, slots-over}
 use Rattle.census.proofs.write_slots.Statement.{statement}
 use Rattle.census.proofs.write_slots.Tie as tie
 
@@ -28,28 +29,28 @@ wide16-requires-2 : tie.Need-wide16-requires-2 Inv-loop μ-loop
 wide16-requires-2 c κs = search needs
 
 next-taken-requires : tie.Need-next-taken-requires Inv-loop μ-loop
-next-taken-requires c κs = let k = cut (c .before .before .before .before .before .pre .2) (c .before .before .class-row .ensures) (c .before .wide16 .ensures) (c .wide162 .ensures) in (omega arith, omega arith, omega arith, k .few)
+next-taken-requires c κs = let k = cut (c .before .before .class-row .ensures) (c .before .wide16 .ensures) (c .wide162 .ensures) in (omega arith, omega arith, omega arith, cut-few k)
 
 loop-holds : tie.Need-loop-holds Inv-loop μ-loop
-loop-holds c = let k = cut (c .before .before .before .before .before .before .pre .2) (c .before .before .before .class-row .ensures) (c .before .before .wide16 .ensures) (c .before .wide162 .ensures) in let t = c .next-taken .ensures in (t .high, t .here, k, writing-none _ _ _ _ (slots-start _ _ _ k t))
+loop-holds c = let k = cut (c .before .before .before .class-row .ensures) (c .before .before .wide16 .ensures) (c .before .wide162 .ensures) in let t = c .next-taken .ensures in (t .high, t .here, k, writing-none _ _ _ _ (slots-start _ _ _ k t))
 
 mul-write-block : tie.Need-mul-write-block Inv-loop μ-loop
 mul-write-block c = search needs
 
 mul-write-block-2 : tie.Need-mul-write-block-2 Inv-loop μ-loop
-mul-write-block-2 c = let m = offset-small {s = c .before .before .loop .s} (c .before .before .loop .inv .2) (omega arith) in record { fits = omega arith }
+mul-write-block-2 c = let m = cut-offset {s = c .before .before .loop .s} (c .before .before .loop .inv .2) (omega arith) in record { fits = omega arith }
 
 add-write-block : tie.Need-add-write-block Inv-loop μ-loop
-add-write-block c = let m = offset-small {s = c .before .before .loop .s} (c .before .before .loop .inv .2) (omega arith) in record { fits = omega arith }
+add-write-block c = let m = cut-offset {s = c .before .before .loop .s} (c .before .before .loop .inv .2) (omega arith) in record { fits = omega arith }
 
 write-block-requires : tie.Need-write-block-requires Inv-loop μ-loop
 write-block-requires c κs = slot-room _ _ _ (c .before .before .loop .inv .2) (c .before .before .loop .inv .3) (omega arith) (c .before .before .loop .inv .1 (omega arith)) (c .before .before .before .before .before .before .before .before .before .pre .3)
 
 add-next-taken : tie.Need-add-next-taken Inv-loop μ-loop
-add-next-taken c = let k = c .before .before .before .before .before .loop .inv .2 in record { fits = omega arith }
+add-next-taken c = let k = cut-few (c .before .before .before .before .before .loop .inv .2) in record { fits = omega arith }
 
 next-taken-requires-2 : tie.Need-next-taken-requires-2 Inv-loop μ-loop
-next-taken-requires-2 c κs = let k = c .before .before .before .before .before .loop .inv .2 in (omega arith, omega arith, omega arith, k .few)
+next-taken-requires-2 c κs = let k = c .before .before .before .before .before .loop .inv .2 in (omega arith, omega arith, omega arith, cut-few k)
 
 loop-less : tie.Need-loop-less Inv-loop μ-loop
 loop-less c = let t = c .next-taken2 .ensures in omega arith

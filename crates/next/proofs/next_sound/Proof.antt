@@ -7,7 +7,7 @@ use Rattle.records.specs.Pool.{pool}
 use Rattle.records.proofs.AdmitLaws.{admitted}
 use Rattle.next.specs.Walk.{Ahead}
 use Rattle.next.proofs.StartLaws.{none-outside}
-use Rattle.next.proofs.AheadLaws.{next-low, few-slots, small-offset, few-pages, moved, nothing-left, page-passed, large-found, slots-passed, slot-found, free-passed, edge-passed}
+use Rattle.next.proofs.AheadLaws.{next-low, few-slots, few-pages, moved, nothing-left, page-passed, large-found, slots-passed, slot-found, free-passed, edge-passed}
 use Rattle.next.proofs.next_sound.Statement.{statement}
 use Rattle.next.proofs.next_sound.Tie as tie
 
@@ -103,10 +103,10 @@ mul-wide64-3 : tie.Need-mul-wide64-3 Inv-loop2 μ-loop2 Inv-loop μ-loop Inv-sea
 mul-wide64-3 c = let s = admitted _ _ (c .before .before .before .before .before .before .before .before .before .before .before .before .before .before .before .before .before .pre) .shape in record { fits = omega arith }
 
 mul-wide64-4 : tie.Need-mul-wide64-4 Inv-loop2 μ-loop2 Inv-loop μ-loop Inv-search μ-search
-mul-wide64-4 c = let s = admitted _ _ (c .before .before .before .before .before .before .before .before .before .before .before .before .before .before .before .before .before .pre) .shape in let d = few-slots _ _ (c .before .before .before .before .before .before .begun-at .ensures) (c .before .before .loop2-test .taken) in let d₀ = d .0 in let d₁ = d .1 in let o = small-offset _ _ _ (c .if4 .taken) d₀ d₁ in record { fits = omega arith }
+mul-wide64-4 c = let s = admitted _ _ (c .before .before .before .before .before .before .before .before .before .before .before .before .before .before .before .before .before .pre) .shape in let d = few-slots _ _ (c .before .before .before .before .before .before .begun-at .ensures) (c .before .before .loop2-test .taken) in let d₀ = d .0 in let d₁ = d .1 in let o = d₁ _ (c .if4 .taken) in record { fits = omega arith }
 
 add-wide64 : tie.Need-add-wide64 Inv-loop2 μ-loop2 Inv-loop μ-loop Inv-search μ-search
-add-wide64 c = let s = admitted _ _ (c .before .before .before .before .before .before .before .before .before .before .before .before .before .before .before .before .before .pre) .shape in let d = few-slots _ _ (c .before .before .before .before .before .before .begun-at .ensures) (c .before .before .loop2-test .taken) in let d₀ = d .0 in let d₁ = d .1 in let o = small-offset _ _ _ (c .if4 .taken) d₀ d₁ in record { fits = omega arith }
+add-wide64 c = let s = admitted _ _ (c .before .before .before .before .before .before .before .before .before .before .before .before .before .before .before .before .before .pre) .shape in let d = few-slots _ _ (c .before .before .before .before .before .before .begun-at .ensures) (c .before .before .loop2-test .taken) in let d₀ = d .0 in let d₁ = d .1 in let o = d₁ _ (c .if4 .taken) in record { fits = omega arith }
 
 wide64-requires-3 :
     tie.Need-wide64-requires-3 Inv-loop2 μ-loop2 Inv-loop μ-loop Inv-search μ-search

@@ -1,7 +1,8 @@
 -- `next::slot_from` meets its contract. Assumes nothing.
 use mathlib.Core.Path.{refl}
 use native.Mathlib.Omega.{arith}
-use Rattle.next.proofs.CallLaws.{size-some, slot-of}
+use Rattle.next.proofs.CallLaws.{slot-of}
+use Rattle.classes.proofs.ClassLaws.{cut-some}
 use borrow.Author.Needs.{needs}
 use Rattle.next.proofs.slot_from.Statement.{statement}
 use Rattle.next.proofs.slot_from.Tie as tie
@@ -13,13 +14,13 @@ wide16-requires : tie.Need-wide16-requires
 wide16-requires c κs = search needs
 
 sub-result : tie.Need-sub-result
-sub-result c = let z = size-some _ (c .before .class-row .ensures) (c .wide16 .ensures) (c .before .before .pre .0) .0 in omega arith
+sub-result c = let z = cut-some (c .before .class-row .ensures) (c .wide16 .ensures) (c .before .before .pre .0) in omega arith
 
 add-result : tie.Need-add-result
 add-result c = search needs
 
 div-result : tie.Need-div-result
-div-result c = size-some _ (c .before .class-row .ensures) (c .wide16 .ensures) (c .before .before .pre .0) .0
+div-result c = cut-some (c .before .class-row .ensures) (c .wide16 .ensures) (c .before .before .pre .0)
 
 returns : tie.Need-returns
 returns c = slot-of _ _ (c .before .class-row .ensures) (c .wide16 .ensures) (c .before .before .pre .0) refl

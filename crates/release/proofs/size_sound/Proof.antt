@@ -2,7 +2,7 @@
 use mathlib.Core.Path.{refl, ap, _∙_}
 use Prim.Native.Nat.{ℕ, _*_}
 use native.Mathlib.Omega.{arith}
-use Rattle.classes.specs.declared.Row.{Row}
+use Rattle.classes.proofs.ClassLaws.{size-read}
 use Rattle.records.proofs.AdmitLaws.{admitted}
 use Rattle.records.proofs.RunLaws.{class-at-low}
 use Rattle.release.specs.Release.{sized}
@@ -45,7 +45,7 @@ wide64-requires-2 : tie.Need-wide64-requires-2
 wide64-requires-2 c κs = search needs
 
 returns-3 : tie.Need-returns-3
-returns-3 c = size-as (c .before .before .before .before .g2 .given .1) (c .before .before .before .before .before .before .spot-at .ensures) (ap (sized 0) (c .wide642 .ensures ∙ c .before .wide16 .ensures ∙ ap (λ (r : Row). r .size) (c .before .before .class-row .ensures)))
+returns-3 c = size-as (c .before .before .before .before .g2 .given .1) (c .before .before .before .before .before .before .spot-at .ensures) (ap (sized 0) (c .wide642 .ensures ∙ size-read _ (c .before .before .class-row .ensures) (c .before .wide16 .ensures)))
 
 pub size-sound-spec : {M : Type 1} → statement M
 size-sound-spec =

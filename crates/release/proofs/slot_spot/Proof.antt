@@ -1,7 +1,8 @@
 -- `release::slot_spot` meets its contract. Assumes nothing.
 use mathlib.Core.Path.{_∙_, sym}
 use native.Mathlib.Omega.{arith}
-use Rattle.release.proofs.SpotLaws.{cut, cut-some, cut-few, slot-between, slot-behind, slot-taken, slot-free}
+use Rattle.classes.proofs.ClassLaws.{cut, cut-some, cut-few}
+use Rattle.release.proofs.SpotLaws.{slot-between, slot-behind, slot-taken, slot-free}
 use borrow.Author.Needs.{needs}
 use Rattle.release.proofs.slot_spot.Statement.{statement}
 use Rattle.release.proofs.slot_spot.Tie as tie
@@ -34,7 +35,7 @@ add-is-set : tie.Need-add-is-set
 add-is-set c = search needs
 
 is-set-requires : tie.Need-is-set-requires
-is-set-requires c κs = let s = cut-few (cut (c .before .before .before .before .class-row .ensures) (c .before .before .before .wide16 .ensures) (c .before .before .wide162 .ensures)) (c .before .before .before .before .before .before .pre .2) (c .if2 .left) in omega arith
+is-set-requires c κs = let s = cut-few (cut (c .before .before .before .before .class-row .ensures) (c .before .before .before .wide16 .ensures) (c .before .before .wide162 .ensures)) in let l = c .if2 .left in omega arith
 
 returns-3 : tie.Need-returns-3
 returns-3 c = slot-taken _ _ _ _ (cut (c .before .before .before .before .before .before .class-row .ensures) (c .before .before .before .before .before .wide16 .ensures) (c .before .before .before .before .wide162 .ensures)) (c .before .before .before .if1 .left) (c .before .before .if2 .left) (sym (c .before .is-set .ensures) ∙ c .if3 .taken)

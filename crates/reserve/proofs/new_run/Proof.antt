@@ -1,7 +1,6 @@
 -- `reserve::new_run` meets its contract. Assumes nothing.
-use mathlib.Core.Path.{_∙_, ap}
 use native.Mathlib.Omega.{arith}
-use Rattle.classes.specs.declared.Row.{Row}
+use Rattle.classes.proofs.ClassLaws.{pages-read}
 use Rattle.reserve.proofs.StoreForms.{new-run-is}
 use borrow.Author.Needs.{needs}
 use Rattle.reserve.proofs.new_run.Statement.{statement}
@@ -14,10 +13,10 @@ wide16-requires : tie.Need-wide16-requires
 wide16-requires c κs = search needs
 
 put-bits-requires : tie.Need-put-bits-requires
-put-bits-requires c κs = let e = (c .before .wide16 .ensures ∙ ap (λ (r : Row). r .pages) (c .before .before .class-row .ensures)) in (omega arith, omega arith)
+put-bits-requires c κs = let e = (pages-read _ (c .before .before .class-row .ensures) (c .before .wide16 .ensures)) in (omega arith, omega arith)
 
 class-words-requires : tie.Need-class-words-requires
-class-words-requires c κs = let e = (c .before .before .before .before .before .wide16 .ensures ∙ ap (λ (r : Row). r .pages) (c .before .before .before .before .before .before .class-row .ensures)) in (omega arith, omega arith, c .before .before .before .before .before .before .before .before .before .before .pre .0, e)
+class-words-requires c κs = let e = (pages-read _ (c .before .before .before .before .before .before .class-row .ensures) (c .before .before .before .before .before .wide16 .ensures)) in (omega arith, omega arith, c .before .before .before .before .before .before .before .before .before .before .pre .0, e)
 
 mul-put-bit : tie.Need-mul-put-bit
 mul-put-bit c = search needs
@@ -35,7 +34,7 @@ same-length-3 : tie.Need-same-length-3
 same-length-3 c = search needs
 
 returns : tie.Need-returns
-returns c = new-run-is _ _ _ _ (c .before .before .before .before .before .before .before .before .before .before .before .before .before .before .before .before .before .pre .0) (c .before .before .before .before .before .before .before .before .before .before .before .before .wide16 .ensures ∙ ap (λ (r : Row). r .pages) (c .before .before .before .before .before .before .before .before .before .before .before .before .before .class-row .ensures)) _ _ _ (c .before .before .before .before .before .before .before .before .before .before .put-bits .ensures) (c .before .before .before .before .before .before .class-words .ensures) (c .before .before .put-bit .ensures)
+returns c = new-run-is _ _ _ _ (c .before .before .before .before .before .before .before .before .before .before .before .before .before .before .before .before .before .pre .0) (pages-read _ (c .before .before .before .before .before .before .before .before .before .before .before .before .before .class-row .ensures) (c .before .before .before .before .before .before .before .before .before .before .before .before .wide16 .ensures)) _ _ _ (c .before .before .before .before .before .before .before .before .before .before .put-bits .ensures) (c .before .before .before .before .before .before .class-words .ensures) (c .before .before .put-bit .ensures)
 
 pub new-run-spec : {M : Type 1} → statement M
 new-run-spec =

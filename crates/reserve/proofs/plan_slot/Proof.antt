@@ -1,7 +1,6 @@
 -- `reserve::plan_slot` meets its contract. Assumes nothing.
-use mathlib.Core.Path.{_∙_, ap}
 use native.Mathlib.Omega.{arith}
-use Rattle.classes.specs.declared.Row.{Row}
+use Rattle.classes.proofs.ClassLaws.{pages-read, slots-read}
 use Rattle.records.proofs.AdmitLaws.{admitted}
 use Rattle.reserve.proofs.PlanLaws.{class-few, class-pages, plan-in, plan-new, plan-none}
 use borrow.Author.Needs.{needs}
@@ -15,7 +14,7 @@ wide16-requires : tie.Need-wide16-requires
 wide16-requires c κs = search needs
 
 slot-page-requires : tie.Need-slot-page-requires
-slot-page-requires c κs = (c .before .before .before .before .before .pre .0, c .before .before .before .before .before .pre .1, (c .wide16 .ensures ∙ ap (λ (r : Row). r .slots) (c .before .class-row .ensures)))
+slot-page-requires c κs = (c .before .before .before .before .before .pre .0, c .before .before .before .before .before .pre .1, (slots-read _ (c .before .class-row .ensures) (c .wide16 .ensures)))
 
 mul-if1 : tie.Need-mul-if1
 mul-if1 c = let a = admitted _ _ (c .before .before .before .before .before .before .pre .0) in let h = a .shape in record { fits = omega arith }
@@ -23,7 +22,7 @@ mul-if1 c = let a = admitted _ _ (c .before .before .before .before .before .bef
 free-slot-requires : tie.Need-free-slot-requires
 free-slot-requires c κs =
     let a = admitted _ _ (c .before .before .before .before .before .before .before .pre .0) in let h = a .shape in
-    let e = (c .before .before .wide16 .ensures ∙ ap (λ (r : Row). r .slots) (c .before .before .before .class-row .ensures)) in
+    let e = (slots-read _ (c .before .before .before .class-row .ensures) (c .before .before .wide16 .ensures)) in
     (omega arith, omega arith, e, class-few (c .before .before .before .before .before .before .before .pre .1) e)
 
 returns : tie.Need-returns
@@ -35,20 +34,20 @@ wide16-requires-2 c κs = search needs
 find-pages-requires : tie.Need-find-pages-requires
 find-pages-requires c κs =
     let a = admitted _ _ (c .before .before .before .before .before .before .before .before .pre .0) in let h = a .shape in
-    let k = class-pages (c .before .before .before .before .before .before .before .before .pre .1) (c .wide162 .ensures ∙ ap (λ (r : Row). r .pages) (c .before .before .before .before .class-row .ensures)) in
+    let k = class-pages (c .before .before .before .before .before .before .before .before .pre .1) (pages-read _ (c .before .before .before .before .class-row .ensures) (c .wide162 .ensures)) in
     (omega arith, omega arith, k)
 
 enum-known-f : tie.Need-enum-known-f
 enum-known-f c = search needs
 
 returns-2 : tie.Need-returns-2
-returns-2 c = plan-new _ _ _ _ _ _ _ (c .before .before .before .before .before .before .slot-page .ensures) (c .before .before .before .before .before .if1 .left) (c .before .before .before .before .wide162 .ensures ∙ ap (λ (r : Row). r .pages) (c .before .before .before .before .before .before .before .before .class-row .ensures)) (c .before .before .before .find-pages .ensures) (c .before .f .given .1)
+returns-2 c = plan-new _ _ _ _ _ _ _ (c .before .before .before .before .before .before .slot-page .ensures) (c .before .before .before .before .before .if1 .left) (pages-read _ (c .before .before .before .before .before .before .before .before .class-row .ensures) (c .before .before .before .before .wide162 .ensures)) (c .before .before .before .find-pages .ensures) (c .before .f .given .1)
 
 enum-told : tie.Need-enum-told
 enum-told c = search needs
 
 returns-3 : tie.Need-returns-3
-returns-3 c = plan-none _ _ _ _ _ _ (c .before .before .before .before .before .slot-page .ensures) (c .before .before .before .before .if1 .left) (c .before .before .before .wide162 .ensures ∙ ap (λ (r : Row). r .pages) (c .before .before .before .before .before .before .before .class-row .ensures)) (c .before .before .find-pages .ensures) (c .enum-told .given .1)
+returns-3 c = plan-none _ _ _ _ _ _ (c .before .before .before .before .before .slot-page .ensures) (c .before .before .before .before .if1 .left) (pages-read _ (c .before .before .before .before .before .before .before .class-row .ensures) (c .before .before .before .wide162 .ensures)) (c .before .before .find-pages .ensures) (c .enum-told .given .1)
 
 pub plan-slot-spec : {M : Type 1} → statement M
 plan-slot-spec =
