@@ -128,20 +128,7 @@ static void expect_damaged(const struct trial_pools *pools, size_t chunk, unsign
 
 static void test_named_damage(void)
 {
-    struct trial_pools pools[COUNT(efforts)];
-
-    for (size_t i = 0; i < COUNT(efforts); i++)
-        pools[i] = pools_new(efforts[i].c);
-    for (size_t n = 0; n < damage_case_count; n++) {
-        group_begin("damage", damage_cases[n].name);
-        for (size_t i = 0; i < COUNT(efforts); i++) {
-            pools_generate(&pools[i], recipe_named("parade"));
-            try_damage_case(&damage_cases[n], &pools[i], &efforts[i], expect_damaged);
-        }
-        group_end();
-    }
-    for (size_t i = 0; i < COUNT(efforts); i++)
-        pools_free(&pools[i]);
+    try_damage_cases("damage", efforts, COUNT(efforts), expect_damaged);
 }
 
 /* ---- Every single bit ------------------------------------------------------ */

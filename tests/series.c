@@ -951,20 +951,8 @@ static void expect_damage_refused(const struct trial_pools *pools, size_t chunk,
 static void test_damaged_records(void)
 {
     static const struct effort efforts[] = {{1, 40, 4}, {2, 16, 4}, {16, 3, 2}};
-    struct trial_pools pools[COUNT(efforts)];
 
-    for (size_t i = 0; i < COUNT(efforts); i++)
-        pools[i] = pools_new(efforts[i].c);
-    for (size_t n = 0; n < damage_case_count; n++) {
-        group_begin("refused-2", damage_cases[n].name);
-        for (size_t i = 0; i < COUNT(efforts); i++) {
-            pools_generate(&pools[i], recipe_named("parade"));
-            try_damage_case(&damage_cases[n], &pools[i], &efforts[i], expect_damage_refused);
-        }
-        group_end();
-    }
-    for (size_t i = 0; i < COUNT(efforts); i++)
-        pools_free(&pools[i]);
+    try_damage_cases("refused-2", efforts, COUNT(efforts), expect_damage_refused);
 }
 
 int main(int argc, char **argv)

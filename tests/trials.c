@@ -2,6 +2,8 @@
 
 #include "groups.h"
 
+#include <assert.h>
+
 struct trial_pools pools_new(size_t c)
 {
     struct trial_pools pools = {lent_new(c), lent_new(c), lent_new(c)};
@@ -76,7 +78,7 @@ static void try_in_chunk(const struct damage_case *way, struct trial_pools *pool
     }
 }
 
-void try_damage_case(const struct damage_case *way, struct trial_pools *pools,
+static void try_case(const struct damage_case *way, struct trial_pools *pools,
                      const struct effort *effort, damage_trial *try_it)
 {
     size_t first = 0, middle = effort->c / 2, last = effort->c - 1;
@@ -86,4 +88,27 @@ void try_damage_case(const struct damage_case *way, struct trial_pools *pools,
         try_in_chunk(way, pools, middle, effort, try_it);
     if (last != middle)
         try_in_chunk(way, pools, last, effort, try_it);
+}
+
+/* More efforts than any test makes. */
+enum { MAX_EFFORTS = 8 };
+
+void try_damage_cases(const char *family, const struct effort *efforts, size_t count,
+                      damage_trial *try_it)
+{
+    struct trial_pools pools[MAX_EFFORTS];
+
+    assert(count <= MAX_EFFORTS);
+    for (size_t i = 0; i < count; i++)
+        pools[i] = pools_new(efforts[i].c);
+    for (size_t n = 0; n < damage_case_count; n++) {
+        group_begin(family, damage_cases[n].name);
+        for (size_t i = 0; i < count; i++) {
+            pools_generate(&pools[i], recipe_named("parade"));
+            try_case(&damage_cases[n], &pools[i], &efforts[i], try_it);
+        }
+        group_end();
+    }
+    for (size_t i = 0; i < count; i++)
+        pools_free(&pools[i]);
 }

@@ -28,8 +28,11 @@ struct effort {
 typedef void damage_trial(const struct trial_pools *pools, size_t chunk, unsigned page,
                           unsigned variant);
 
-/* Does one case of damage to the first, a middle and the last chunk in turn. */
-void try_damage_case(const struct damage_case *way, struct trial_pools *pools,
-                     const struct effort *effort, damage_trial *try_it);
+/*
+ * Every named case of damage, each a group of the family: done to the first, a
+ * middle and the last chunk of one pool for each of the `count` efforts.
+ */
+void try_damage_cases(const char *family, const struct effort *efforts, size_t count,
+                      damage_trial *try_it);
 
 #endif
