@@ -1,10 +1,9 @@
 -- Laws of the count of a row's 1 bits.
 -- Assumes nothing.
 use mathlib.Core.Path.{_≡_, refl, sym, ap, ap₂, _∙_}
-use mathlib.Core.Logic.{⊎-elim}
 use mathlib.Core.List.{List}
-use Prim.Native.Nat.{ℕ, zero, suc, _+_, _-_, _*_, _/_, _%_, _^_, _≤_, _<_}
-use native.Mathlib.Nat.{zero-add, suc-add, add-zero, add-assoc, div-one, eq-or-lt-of-le}
+use Prim.Native.Nat.{ℕ, zero, suc, _+_, _-_, _*_, _/_, _%_, _^_, _≤_}
+use native.Mathlib.Nat.{zero-add, suc-add, add-zero, add-assoc, div-one}
 use native.Mathlib.Omega.{arith}
 use lib.Bits.{bitAnd, and-high}
 use lib.Count.{ones, onesIn, ones-step, ones-cat}
@@ -18,13 +17,6 @@ use Rattle.bitrow.proofs.Rows.{bit-at-le, rest, bit-rest}
 pub count-none : (ws : List ℕ) (i n : ℕ) → n ≡ 0 → countBits ws i n ≡ 0
 unfolding countBits
 count-none ws i n e = ap (λ (x : ℕ). countBits ws i x) e
-
-pub count-step : (ws : List ℕ) (i n : ℕ) → 0 < n → countBits ws i n ≡ bitAt ws i + countBits ws (i + 1) (n - 1)
-unfolding countBits
-count-step ws i zero h = absurd (omega arith)
-count-step ws i (suc n) h =
-    let less : n ≡ suc n - 1 = omega arith in
-    ap (λ (x : ℕ). bitAt ws i + countBits ws (i + 1) x) less
 
 -- some places, and then those behind them
 pub count-add : (m : ℕ) (ws : List ℕ) (i n : ℕ) → countBits ws i (m + n) ≡ countBits ws i m + countBits ws (i + m) n
@@ -44,21 +36,6 @@ count-le zero ws i = omega arith
 count-le (suc n) ws i = omega (arith, bit-at-le ws i, count-le n ws (i + 1))
 
 -- ---- the count is 0 where all n bits are 0, and only there
-
-pub all-clear : (n : ℕ) (ws : List ℕ) (i : ℕ) → ((j : ℕ) → i ≤ j → j < i + n → bitAt ws j ≡ 0) → countBits ws i n ≡ 0
-unfolding countBits
-all-clear zero ws i h = refl
-all-clear (suc n) ws i h =
-    ap₂ (λ (x y : ℕ). x + y) (h i (omega arith) (omega arith)) (all-clear n ws (i + 1) (λ j a b. h j (omega arith) (omega arith)))
-
-pub count-clear : (n : ℕ) (ws : List ℕ) (i : ℕ) → countBits ws i n ≡ 0 → (j : ℕ) → i ≤ j → j < i + n → bitAt ws j ≡ 0
-unfolding countBits
-count-clear zero ws i e j a b = absurd (omega arith)
-count-clear (suc n) ws i e j a b =
-    ⊎-elim
-    (λ z. let here : bitAt ws i ≡ 0 = omega arith in ap (bitAt ws) (sym z) ∙ here)
-    (λ z. count-clear n ws (i + 1) (omega arith) j (omega arith) (omega arith))
-    (eq-or-lt-of-le a)
 
 -- ---- places of one word, by a mask
 

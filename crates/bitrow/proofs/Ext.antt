@@ -77,14 +77,6 @@ put-bits-ext v n ws i ys v01 l a b e here else =
     (λ z. else j z ∙ sym (put-bits-out v n ws i v01 l j z))
     (in-or-out i n j))
 
--- places that had v and are put to v again after another change of them: the row is as it was
-pub put-back : (v u n : ℕ) (ws : List ℕ) (i : ℕ) → v < 2 → u < 2 → i + n ≤ 64 * length ws → Words ws
-    → ((j : ℕ) → i ≤ j → j < i + n → bitAt ws j ≡ v) → putBits v (putBits u ws i n) i n ≡ ws
-put-back v u n ws i hv hu l a was =
-    let e = length-put-bits u n ws i in
-    sym (put-bits-ext v n (putBits u ws i n) i ws hv (omega arith) (put-bits-words u n ws i l a) a (sym e) was
-    (λ j z. sym (put-bits-out u n ws i hu l j z)))
-
 -- ---- places of one word, by a mask
 
 module _ (v : ℕ) (ws : List ℕ) (i m : ℕ) (v01 : v < 2) (words : Words ws) (inside : i < 64 * length ws) (l : i % 64 + m ≤ 64) where

@@ -8,12 +8,11 @@ use Prim.Native.Nat.{ℕ, zero, suc, _+_, _-_, _*_, _/_, _%_, _≤_, _<_}
 use native.Mathlib.Nat.{zero-add, add-zero, suc-add, eq-or-lt-of-le}
 use native.Mathlib.Decide.{ℕ-discrete}
 use native.Mathlib.Omega.{arith}
-use borrow.Author.Tests.{eqb-true, eqb-false, eq-eqb, ne-eqb}
+use borrow.Author.Tests.{eq-eqb, ne-eqb}
 use lib.Dec.{eqb}
 use lib.ListN.{length, getD, set, length-set}
 use lib.Seq.{getD-set-same, getD-set-other}
 use Rattle.bitrow.specs.Row.{bit, bitAt, isSet, wordPut, putBit, putBits}
-use Rattle.bitrow.proofs.Rows.{bit-at-le}
 use Rattle.bitrow.proofs.Masks.{put-same, put-other}
 
 -- ---- the word of place i changed to x
@@ -69,13 +68,6 @@ pub put-bits-none : (v : ℕ) (ws : List ℕ) (i n : ℕ) → n ≡ 0 → putBit
 unfolding putBits
 put-bits-none v ws i n e = ap (λ (x : ℕ). putBits v ws i x) e
 
-pub put-bits-step : (v : ℕ) (ws : List ℕ) (i n : ℕ) → 0 < n → putBits v ws i n ≡ putBits v (putBit v ws i) (i + 1) (n - 1)
-unfolding putBits
-put-bits-step v ws i zero h = absurd (omega arith)
-put-bits-step v ws i (suc n) h =
-    let less : n ≡ suc n - 1 = omega arith in
-    ap (λ (x : ℕ). putBits v (putBit v ws i) (i + 1) x) less
-
 -- some places, and then those behind them
 pub put-bits-add : (m v : ℕ) (ws : List ℕ) (i n : ℕ) → putBits v ws i (m + n) ≡ putBits v (putBits v ws i m) (i + m) n
 unfolding putBits
@@ -123,14 +115,6 @@ module _ (v n : ℕ) (ws : List ℕ) (i : ℕ) (v01 : v < 2) (room : i + n ≤ 6
   is-set-out o = ap (λ (x : ℕ). eqb x 1) (put-bits-out v n ws i v01 room j o)
 
 -- ---- a set place has 1, and any other 0
-
-pub set-or-clear : (ws : List ℕ) (i : ℕ) → (isSet ws i ≡ true → bitAt ws i ≡ 1) × (isSet ws i ≡ false → bitAt ws i ≡ 0)
-unfolding isSet
-set-or-clear ws i = (λ e. eqb-true (bitAt ws i) 1 e, λ e. not-one (bitAt ws i) (bit-at-le ws i) (eqb-false (bitAt ws i) 1 e))
-  where
-    not-one : (b : ℕ) → b ≤ 1 → (b ≡ 1 → ⊥) → b ≡ 0
-    not-one zero l d = refl
-    not-one (suc b) l d = absurd (d (omega arith))
 
 -- and the other way round
 pub one-set : (ws : List ℕ) (i : ℕ) → bitAt ws i ≡ 1 → isSet ws i ≡ true

@@ -37,7 +37,7 @@ pub fn first_bit(w: u64, v: bool) -> u32
 }
 
 // The lesser of two numbers.
-fn least(a: usize, b: usize) -> usize
+pub fn least(a: usize, b: usize) -> usize
     ensures { λ r. ⌜ r ≡ min a b ⌝ }
 {
     if a < b { a } else { b }

@@ -16,7 +16,7 @@ use Rattle.records.specs.Sound.{step}
 use Rattle.records.specs.Runs.{spanOf}
 use Rattle.records.proofs.WalkLaws.{walk, walk-next, sound-walks, step-inner}
 use Rattle.records.proofs.RunLaws.{begins-run, sound-runs}
-use Rattle.blocks.specs.Blocks.{Block, slotBlock, flat, when, blocksAt, live, pageBlocks, Rising, stop, next}
+use Rattle.blocks.specs.Blocks.{Block, slotBlock, flat, when, blocksAt, live, pageBlocks, Ins, here, there, Rising, stop, next}
 use Rattle.blocks.specs.Stores.{Good}
 
 -- ---- rising lists
@@ -36,6 +36,15 @@ rising-widen a b (next k z r) = next (le-trans a k) z (rising-widen (le-refl _) 
 rising-append : {l r : List Block} {lo mid hi : ℕ} → Rising lo l mid → Rising mid r hi → Rising lo (l ++ r) hi
 rising-append (stop h) k = rising-widen h (le-refl _) k
 rising-append (next h z t) k = next h z (rising-append t k)
+
+rising-end : {l : List Block} {lo hi : ℕ} → Rising lo l hi → lo ≤ hi
+rising-end (stop h) = h
+rising-end (next {b} h z r) = let e = rising-end r in omega arith
+
+-- one of a list that rises is not empty, and ends at or before the upper bound
+rising-one : {b : Block} {l l′ : List Block} {lo hi : ℕ} → Rising lo l′ hi → Ins b l l′ → (0 < b .size) × (b .place + b .size ≤ hi)
+rising-one (next h z r) here = (z, rising-end r)
+rising-one (next h z r) (there i) = rising-one r i
 
 -- ---- the blocks of a page
 
@@ -88,6 +97,11 @@ pub live-rising : (c : ℕ) (p : Pool) → Good c p → Rising 0 (live c p) (209
 unfolding live pageBlocks
 live-rising c p h =
     rising-widen (omega arith) (omega arith) (walk-rising (kindAt p) (slotAt p) (512 * c) [] 0 (sound-walks c p (h .whole) .walks))
+
+-- each of them lies inside the pool
+pub live-inside : (c : ℕ) (p : Pool) → Good c p → {b : Block} {l : List Block} → Ins b l (live c p)
+    → (0 < b .size) × (b .place + b .size ≤ 2097152 * c)
+live-inside c p h i = rising-one (live-rising c p h) i
 
 -- ---- off page 0
 

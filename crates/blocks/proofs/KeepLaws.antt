@@ -15,19 +15,26 @@ use Rattle.classes.proofs.ClassLaws.{any-row, row-facts}
 use Rattle.records.specs.Kinds.{Kind, free, large, class, inner, kindOf, zeros, behind, innerWords, wordsOf, slotsOf}
 use Rattle.records.specs.Pool.{Pool, kindAt, slotAt}
 use Rattle.records.specs.Sound.{named, clean, step}
-use Rattle.records.specs.Calls.{freshPool}
+use Rattle.records.specs.Calls.{fit, admitOf, Left, freshPool, freshOf}
 use Rattle.records.specs.Runs.{spanOf}
 use Rattle.records.proofs.Flags.{all-at}
 use Rattle.records.proofs.KindLaws.{length-zeros, getD-zeros, length-inner, getD-inner, kind-free, kind-inner, kind-zero, kind-class, kind-large}
 use Rattle.records.proofs.WalkLaws.{walk, walk-next, Sound, sound-walks, walk-found, Begins, walk-at}
 use Rattle.records.proofs.RunLaws.{Mid, mid-off, walk-run}
-use Rattle.records.proofs.FreshLaws.{fresh-edge, fresh-free}
-use Rattle.records.proofs.AdmitLaws.{Shape, shaped-lengths}
+use Rattle.records.proofs.FreshLaws.{fresh-edge, fresh-free, fresh-sound, fresh-fit, fresh-served}
+use Rattle.records.proofs.AdmitLaws.{Shape, shaped-lengths, lengths-shaped, admit-fit, admitted}
 use Rattle.blocks.specs.Blocks.{Block, slotBlock, runBlock, when, blocksAt, live, pageBlocks, Ins, here}
 use Rattle.blocks.specs.Stores.{putRun, putSlot, Good, Gains, Loses}
 use Rattle.blocks.proofs.FlatLaws.{flat-nil}
 use Rattle.blocks.proofs.StoreLaws.{free-off, run-fit, run-slots, run-out, run-in, slot-fit, slot-kinds, slot-same, slot-other}
 use Rattle.blocks.proofs.FlipLaws.{alike-good, gains, loses, RunFlip, run-alike, run-ins, run-same, SlotFlip, slot-alike, slot-ins}
+
+-- a pool is good exactly where the check answers 0
+pub admit-good : (c : ℕ) (p : Pool) → admitOf c p ≡ 0 → Good c p
+admit-good c p ok = let a = admitted c p ok in record { shape = sym (lengths-shaped c _ _ _ (a .shape)); whole = a .whole }
+
+pub good-admit : (c : ℕ) (p : Pool) → Good c p → admitOf c p ≡ 0
+good-admit c p h = sym (admit-fit c p (h .shape) true (sym (h .whole)))
 
 -- no bit names a slot of a page that owns none
 bare : (p : Pool) (g : ℕ) → clean p g ≡ true → slotsOf (kindAt p g) ≡ 0 → (s : ℕ) → s < 512 → slotAt p g s ≡ false
@@ -125,19 +132,22 @@ module _ (c : ℕ) (p : Pool) (h : Good c p) where
               let r : i ≡ suc g + (i - suc g) = omega arith in
               subst Mid (sym (ap (kindAt p) r ∙ rest (i - suc g) (omega arith))) tt)
 
-  pub put-large : (g k : ℕ) → k < 511 → g + suc k ≤ 512 * c → ((i : ℕ) → g ≤ i → i < g + suc k → kindAt p i ≡ free)
-      → Gains c p (putRun 1 p g (wordsOf (large k))) (runBlock g k)
-  put-large g k l fits were =
-      let f =
+  pub take-large : (g k : ℕ) → k < 511 → g + suc k ≤ 512 * c → ((i : ℕ) → g ≤ i → i < g + suc k → kindAt p i ≡ free)
+      → RunFlip c p (putRun 1 p g (wordsOf (large k))) g k (large k) (zeros k)
+  take-large g k l fits were =
       take-run g k (0x40000000 + suc k) (large k) (zeros k) refl (large-begins k) (length-zeros k)
       (kind-large (0x40000000 + suc k) (omega arith) (omega arith) ∙ ap large (omega arith))
-      (λ i x. kind-zero (getD (zeros k) i 0) (getD-zeros k i)) fits were in
-      gains (run-alike f) (run-ins f (runBlock g k) here) h
+      (λ i x. kind-zero (getD (zeros k) i 0) (getD-zeros k i)) fits were
+
+  pub free-large : (g k : ℕ) → g < 512 * c → kindAt p g ≡ large k → RunFlip c (putRun 0 p g (zeros (suc k))) p g k (large k) (zeros k)
+  free-large g k l e = give-run g k (large k) (zeros k) refl (large-begins k) (length-zeros k) tt l e (idle-at g l (ap slotsOf e))
+
+  pub put-large : (g k : ℕ) → k < 511 → g + suc k ≤ 512 * c → ((i : ℕ) → g ≤ i → i < g + suc k → kindAt p i ≡ free)
+      → Gains c p (putRun 1 p g (wordsOf (large k))) (runBlock g k)
+  put-large g k l fits were = let f = take-large g k l fits were in gains (run-alike f) (run-ins f (runBlock g k) here) h
 
   pub give-large : (g k : ℕ) → g < 512 * c → kindAt p g ≡ large k → Loses c p (putRun 0 p g (zeros (suc k))) (runBlock g k)
-  give-large g k l e =
-      let f = give-run g k (large k) (zeros k) refl (large-begins k) (length-zeros k) tt l e (idle-at g l (ap slotsOf e)) in
-      loses (run-alike f) (run-ins f (runBlock g k) here) h
+  give-large g k l e = let f = free-large g k l e in loses (run-alike f) (run-ins f (runBlock g k) here) h
 
   -- ---- slots
 
@@ -177,7 +187,7 @@ module _ (c : ℕ) (p : Pool) (h : Good c p) where
 
   -- ---- a new run of a class
 
-  take-class : (g b : ℕ) → b < 30 → g + suc (behind b) ≤ 512 * c → ((i : ℕ) → g ≤ i → i < g + suc (behind b) → kindAt p i ≡ free)
+  pub take-class : (g b : ℕ) → b < 30 → g + suc (behind b) ≤ 512 * c → ((i : ℕ) → g ≤ i → i < g + suc (behind b) → kindAt p i ≡ free)
       → RunFlip c p (putRun 1 p g (wordsOf (class b))) g (behind b) (class b) (innerWords b 1 (behind b))
   take-class g b l fits were =
       take-run g (behind b) (0x80000000 + b) (class b) (innerWords b 1 (behind b)) refl (class-begins b) (length-inner b 1 (behind b))
@@ -209,3 +219,10 @@ fresh-empty c =
     (λ g a l. by-cases (ℕ-discrete (g % 512) 0)
     (λ e. ap (λ (k : Kind). blocksAt g k (slotAt (freshPool c) g)) (fresh-edge c g (omega arith) e))
     (λ e. ap (λ (k : Kind). blocksAt g k (slotAt (freshPool c) g)) (fresh-free c g (omega arith) e)))
+
+-- a fresh call that is served leaves them, whatever there was
+pub fresh-good : (c : ℕ) (p : Pool) → fit c p ≡ true → Good c (freshOf c p .left)
+fresh-good c p e =
+    let s : Shape c p = shaped-lengths c _ _ _ e in
+    subst (λ (x : Left ℕ). Good c (x .left)) (sym (fresh-served c p e))
+    (record { shape = fresh-fit c (s .some-chunk) (s .few); whole = fresh-sound c })

@@ -12,13 +12,16 @@ pub record Block : Type 0 where
   pub place : ℕ
   pub size : ℕ
 
+abbrev pub block : ℕ → ℕ → Block
+block q z = record { place = q; size = z }
+
 -- slot s of a run of class b that starts at page g
 abbrev pub slotBlock : ℕ → ℕ → ℕ → Block
-slotBlock g b s = record { place = 4096 * g + s * size b; size = size b }
+slotBlock g b s = block (4096 * g + s * size b) (size b)
 
 -- a large run that starts at page g and has k pages behind its first
 abbrev pub runBlock : ℕ → ℕ → Block
-runBlock g k = record { place = 4096 * g; size = 4096 * suc k }
+runBlock g k = block (4096 * g) (4096 * suc k)
 
 -- what f gives at n numbers from i on, one after the other
 unfoldable pub flat : (ℕ → List Block) → ℕ → ℕ → List Block

@@ -15,10 +15,10 @@ use Rattle.records.specs.Kinds.{large, class}
 use Rattle.records.specs.Pool.{Pool, slotAt}
 use Rattle.records.specs.Sound.{sound}
 use Rattle.records.proofs.WordLaws.{page-class, page-large}
-use Rattle.blocks.specs.Blocks.{Block, slotBlock, when, pageBlocks}
+use Rattle.blocks.specs.Blocks.{block, Block, slotBlock, when, pageBlocks}
 use Rattle.blocks.proofs.FlatLaws.{flat-over, flat-step, flat-drop}
 use Rattle.blocks.proofs.PageLaws.{kind-blocks, liveFrom, from-step}
-use Rattle.census.specs.Writes.{block, slotBlocks, NextTaken, Wrote}
+use Rattle.census.specs.Writes.{slotBlocks, NextTaken, Wrote}
 use Rattle.census.proofs.WriteLaws.{Writing, writing-as, writing-on, writing-room, wrote-as}
 
 -- ---- the taken slots of a run

@@ -7,9 +7,9 @@ use native.Mathlib.Numerals.{add-one}
 use native.Mathlib.Omega.{arith}
 use lib.ListN.{length, set, drop, length-append}
 use lib.Seq.{sets, sets-eq, length-sets}
-use Rattle.blocks.specs.Blocks.{Block}
+use Rattle.blocks.specs.Blocks.{block, Block}
 use Rattle.census.specs.Census.{wordsFor}
-use Rattle.census.specs.Writes.{block, Wrote}
+use Rattle.census.specs.Writes.{Wrote}
 
 words-append : (a l : List Block) → wordsFor (a ++ l) ≡ wordsFor a ++ wordsFor l
 unfolding wordsFor

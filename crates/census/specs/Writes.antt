@@ -9,9 +9,6 @@ use Rattle.bitrow.specs.Row.{isSet}
 use Rattle.blocks.specs.Blocks.{Block, slotBlock, flat, when}
 use Rattle.census.specs.Census.{wordsFor}
 
-abbrev pub block : ℕ → ℕ → Block
-block place size = record { place = place; size = size }
-
 -- the blocks of the n slots from slot s on, in the run of class b that starts at page g
 unfoldable pub slotBlocks : List ℕ → ℕ → ℕ → ℕ → ℕ → List Block
 slotBlocks bits g b s n = flat (λ i. when (isSet bits (512 * g + i)) (slotBlock g b i)) s n

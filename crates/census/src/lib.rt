@@ -7,9 +7,9 @@ ghost use lib.Seq.{sets};
 ghost use Rattle.records.specs.Kinds.{class, slotsOf};
 ghost use Rattle.records.specs.Pool.{pool};
 ghost use Rattle.records.specs.Calls.{admitOf};
-ghost use Rattle.blocks.specs.Blocks.{pageBlocks, live};
+ghost use Rattle.blocks.specs.Blocks.{block, pageBlocks, live};
 ghost use Rattle.census.specs.Census.{wordsFor, listed, list, censusOf};
-ghost use Rattle.census.specs.Writes.{slotBlocks, NextTaken, Wrote, block};
+ghost use Rattle.census.specs.Writes.{slotBlocks, NextTaken, Wrote};
 ghost use Rattle.census.specs.Means.{CensusMeans};
 
 // The answer of a census; C reads it as it is.

@@ -6,14 +6,14 @@ use mathlib.Core.Bool.{Bool, true, false, cond}
 use mathlib.Core.List.{List, [], _∷_}
 use Prim.Native.Nat.{ℕ, zero, suc, _+_, _*_, _-_, _≤_, _<_}
 use native.Mathlib.Decide.{decLt}
-use native.Mathlib.Nat.{mul-le-mul-right}
+use native.Mathlib.Nat.{zero-add, mul-le-mul-right}
 use native.Mathlib.Omega.{arith}
 use borrow.Author.Tests.{leb-true, leb-false}
-use lib.Dec.{T, leb, ltb, eqb, leb→le, ltb→lt, eqb→eq, lit<}
+use lib.Dec.{T, leb, ltb, leb→le, ltb→lt, lit<}
 use lib.ListN.{length, getD, List·getD-eq-default}
 use Rattle.classes.specs.declared.Row.{Row}
-use Rattle.classes.specs.Classes.{rowOf, rows, rowAt, size, slots, pages, firstHolding, classFor, RowFacts, Smallest}
-use Rattle.classes.proofs.Entries.{every, at}
+use Rattle.classes.specs.Classes.{rowOf, rows, rowAt, size, slots, pages, firstHolding, classFor, entries, RowFacts, Smallest}
+use Rattle.classes.proofs.Entries.{every, at, tabled-at, tabled-long}
 
 -- ---- the 30 rows
 
@@ -171,19 +171,13 @@ class-smallest n h =
     let below : classFor n < 30 = by-cases (decLt (classFor n) 30) (λ l. l) (λ l. absurd (omega (arith, f .smaller 29 (omega arith)))) in
     record { class = below; holds = f .holds (classFor n) (omega arith) below; smaller = λ a l. f .smaller a (omega arith) }
 
-pub class-none : (n : ℕ) → 3072 < n → classFor n ≡ 30
-unfolding rows rowAt
-class-none n h =
-    let f = class-first n in
-    by-cases (decLt (classFor n) 30)
-    (λ l. absurd (omega (arith, f .holds (classFor n) (omega arith) l, row-facts (classFor n) l .size-most)))
-    (λ l. omega arith)
+-- ---- the table of all entries
 
--- the class of a class's own size is that class
-pub class-own : (b : ℕ) → b < 30 → classFor (size b) ≡ b
-unfolding rows rowAt firstHolding classFor
-class-own b h = eqb→eq _ _ (at (λ i r. eqb (classFor (r .size)) i) (rowOf 0 0 0) rows tt b h)
+module _ (t : List ℕ) (h : t ≡ entries) where
+  pub table-long : length t ≡ 3073
+  unfolding entries
+  table-long = ap length h ∙ tabled-long classFor 3073 0
 
--- the sizes rise: class a is one of those that are too small for class b's own size
-pub size-rises : (a b : ℕ) → a < b → b < 30 → size a < size b
-size-rises a b l h = class-smallest (size b) (row-facts b h .size-most) .smaller a (rw (class-own b h) l)
+  pub table-at : (n r : ℕ) → n ≤ 3072 → r ≡ getD t n 0 → r ≡ classFor n
+  unfolding entries
+  table-at n r l e = e ∙ ap (λ (u : List ℕ). getD u n 0) h ∙ tabled-at classFor 3073 0 n (omega arith) ∙ ap classFor (zero-add n)

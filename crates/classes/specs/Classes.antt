@@ -2,7 +2,7 @@
 -- Assumes nothing.
 use mathlib.Core.Bool.{cond}
 use mathlib.Core.List.{List, [], _∷_}
-use Prim.Native.Nat.{ℕ, suc, _*_, _≤_, _<_}
+use Prim.Native.Nat.{ℕ, zero, suc, _*_, _≤_, _<_}
 use lib.Dec.{leb}
 use lib.ListN.{getD}
 use Rattle.classes.specs.declared.Row.{Row}
@@ -66,6 +66,15 @@ firstHolding (r ∷ rs) b n = let later = firstHolding rs (suc b) n in cond (leb
 -- the smallest class that holds n bytes (30 where none does)
 unfoldable pub classFor : ℕ → ℕ
 classFor n = firstHolding rows 0 n
+
+-- what f gives at m numbers from i on
+abbrev pub tabled : (ℕ → ℕ) → ℕ → ℕ → List ℕ
+tabled f i zero = []
+tabled f i (suc m) = f i ∷ tabled f (suc i) m
+
+-- the classes that serve requests of 0, 1, .. 3,072 bytes
+unfoldable pub entries : List ℕ
+entries = tabled classFor 0 3073
 
 -- what each row keeps to: the pages of a run hold its slots, and not one slot more; and the bounds that the records rely on
 pub record RowFacts (r : Row) : Type 0 where

@@ -5,7 +5,9 @@ ghost use Rattle.classes.specs.Classes.{rows, rowAt};
 
 mod table;
 
+pub use table::class_in;
 pub use table::class_of;
+pub use table::class_table;
 
 // One size class: slot size in bytes, slots in a run, pages in a run.
 pub struct Row {

@@ -2,7 +2,7 @@
 // Behind the first and the last entry of each class stands its request size.
 ghost use mathlib.Core.Path.{_≡_};
 ghost use Prim.Native.Nat.{_≤_};
-ghost use Rattle.classes.specs.Classes.{classFor};
+ghost use Rattle.classes.specs.Classes.{classFor, entries};
 
 const CLASS_OF: [u8; 3073] = [
     0, // 0
@@ -3080,11 +3080,19 @@ const CLASS_OF: [u8; 3073] = [
     29, // 3072
 ];
 
-// An entry as an index; the cast asks nothing here, since any byte fits.
-fn wide(class: u8) -> usize
-    ensures { λ r. ⌜ r ≡ class ⌝ }
+// All entries, for a caller that reads many: a constant is written out anew at each read by index.
+pub fn class_table() -> [u8; 3073]
+    ensures { λ r. ⌜ r ≡ entries ⌝ }
 {
-    class as usize
+    CLASS_OF
+}
+
+// The class that serves a request of this size, by the table.
+pub fn class_in(table: &[u8], size: usize) -> usize
+    requires { ⌜ (now table ≡ entries) × (size ≤ 3072) ⌝ }
+    ensures { λ r. ⌜ r ≡ classFor size ⌝ }
+{
+    widths::wide8(table[size])
 }
 
 // The class that serves a request of this size.
@@ -3092,5 +3100,6 @@ pub fn class_of(size: usize) -> usize
     requires { ⌜ size ≤ 3072 ⌝ }
     ensures { λ r. ⌜ r ≡ classFor size ⌝ }
 {
-    wide(CLASS_OF[size])
+    let table = class_table();
+    class_in(&table, size)
 }

@@ -14,7 +14,7 @@ use Rattle.records.specs.Kinds.{zeros}
 use Rattle.records.specs.Pool.{Pool, pool}
 use Rattle.records.specs.Calls.{fit, leaves, repeat, freshPool, freshOf}
 use Rattle.records.proofs.KindLaws.{length-zeros, getD-zeros}
-use Rattle.records.proofs.FreshLaws.{length-repeat, fresh-bits, fresh-words}
+use Rattle.records.proofs.FreshLaws.{length-repeat, fresh-bits, fresh-words, fresh-served}
 use Rattle.records.proofs.AdmitLaws.{shaped-lengths}
 use Rattle.fresh.specs.Fill.{each, Filled}
 
@@ -63,7 +63,7 @@ same-pool e f g = cc
 pub fresh-made : (c : ℕ) (p : Pool) (b w s : List ℕ) (t : Bool) → t ≡ fit c p → t ≡ true → Filled 8 1 (length (p .bits)) (length (p .bits)) b
     → Filled 512 0x40000001 (length (p .words)) (length (p .words)) w → Filled 8 0 (length (p .slots)) (length (p .slots)) s
     → leaves 0 (pool b w s) ≡ freshOf c p
-unfolding freshOf freshPool each
+unfolding freshPool each
 fresh-made c p b w s t e v x y z =
     let l = shaped-lengths c (length (p .bits)) (length (p .words)) (length (p .slots)) (sym e ∙ v) in
     let bits : b ≡ repeat c (1 ∷ zeros 7) =
@@ -73,7 +73,7 @@ fresh-made c p b w s t e v x y z =
     (λ i a. fresh-words c i (omega arith)) in
     let slots : s ≡ zeros (4096 * c) =
     filled-is (zeros (4096 * c)) z (length-zeros (4096 * c) ∙ sym (l .slots-long)) (λ i a. getD-zeros (4096 * c) i ∙ sym (each-zero 8 i)) in
-    same-pool bits words slots ∙ sym (ap (λ (q : Bool). cond q (leaves 0 (freshPool c)) (leaves 1 p)) (sym e ∙ v))
+    same-pool bits words slots ∙ sym (fresh-served c p (sym e ∙ v))
 
 pub fresh-not : (c : ℕ) (p : Pool) (t : Bool) → t ≡ fit c p → t ≡ false → leaves 1 p ≡ freshOf c p
 unfolding freshOf

@@ -2,4 +2,3 @@ pub mod Scan
 pub mod Listed
 pub mod Choice
 pub mod Answers
-pub mod Ext

@@ -6,7 +6,7 @@ use Prim.Native.Nat.{ℕ, _+_, _*_, _≤_, _<_}
 use native.Mathlib.Decide.{decLe}
 use native.Mathlib.Omega.{arith}
 use Rattle.records.proofs.Flags.{cond-le, cond-nle}
-use Rattle.blocks.specs.Blocks.{Block, live, Rising, stop, next}
+use Rattle.blocks.specs.Blocks.{block, Block, live, Rising, stop, next}
 use Rattle.blocks.proofs.ApartLaws.{live-rising}
 use Rattle.next.specs.declared.Found.{Found}
 use Rattle.next.specs.declared.Found.the-variants.{At, Nothing}
@@ -53,7 +53,7 @@ rising-low (next h z r) x m =
 -- ---- the claims, over a rising list
 
 abbrev Lowest : ℕ → List Block → ℕ → ℕ → Type 0
-Lowest q l y z = List·Memᴰ (record { place = y; size = z }) l × (q ≤ y) × ((x : Block) → List·Memᴰ x l → q ≤ x .place → y ≤ x .place)
+Lowest q l y z = List·Memᴰ (block y z) l × (q ≤ y) × ((x : Block) → List·Memᴰ x l → q ≤ x .place → y ≤ x .place)
 
 first-lowest : (q hi y z : ℕ) (l : List Block) (lo : ℕ) → Rising lo l hi → firstFrom q l ≡ At y z → Lowest q l y z
 first-lowest q hi y z [] lo r e = let u : _≡_ {A = ℕ} 0 1 = ap isFound (sym (first-empty q) ∙ e) in absurd (omega arith)
@@ -65,7 +65,7 @@ first-lowest q hi y z (b ∷ l) lo r e =
         let f = sym e ∙ first-here q b l h in
         let u : y ≡ b .place = ap placeOf f in
         let v : z ≡ b .size = ap sizeOf f in (
-          List·Memᴰ·head (ap₂ (λ (i j : ℕ). record { place = i; size = j }) u v),
+          List·Memᴰ·head (ap₂ block u v),
           omega arith,
           λ x m k. ⊎-elim (λ p. let w = ap (λ (i : Block). i .place) p in omega arith)
               (λ n. let w = rising-low (rising-on r) x n in omega arith) (List·Memᴰ·cases-cons m),

@@ -1,4 +1,4 @@
--- Fresh records are sound. Assumes nothing.
+-- Fresh records are sound, and have the shape of their chunks. Assumes nothing.
 use mathlib.Core.Path.{_≡_, refl, sym, ap, ap₂, _∙_}
 use mathlib.Core.Logic.{_≢_, by-cases}
 use mathlib.Core.Bool.{Bool, true, false, cond}
@@ -15,12 +15,13 @@ use lib.Seq.{getD-append-add}
 use borrow.Author.Tests.{eq-eqb, ne-eqb}
 use Rattle.bitrow.specs.Row.{bit, bitAt, isSet}
 use Rattle.records.specs.Kinds.{Kind, edge, free, kindOf, zeros, slotsOf}
-use Rattle.records.specs.Pool.{isEdge, kindAt, slotAt}
+use Rattle.records.specs.Pool.{Pool, isEdge, kindAt, slotAt}
 use Rattle.records.specs.Sound.{named, clean, step, sound}
-use Rattle.records.specs.Calls.{repeat, freshPool}
+use Rattle.records.specs.Calls.{fit, leaves, repeat, freshPool, freshOf}
 use Rattle.records.proofs.Flags.{all-of}
 use Rattle.records.proofs.KindLaws.{length-zeros, getD-zeros, kind-edge, kind-free}
 use Rattle.records.proofs.WalkLaws.{walk, walk-step, walks-sound}
+use Rattle.records.proofs.AdmitLaws.{lengths-shaped}
 
 -- ---- chunks alike
 
@@ -133,3 +134,19 @@ pub fresh-sound : (c : ℕ) → sound c (freshPool c) ≡ true
 fresh-sound c =
     walks-sound c (freshPool c)
     (record { walks = walk-idle (kindAt (freshPool c)) (512 * c) 0 (λ i a b. idle c i (omega arith)); tidy = λ i a b. fresh-clean c i (omega arith) })
+
+pub fresh-fit : (c : ℕ) → 1 ≤ c → c ≤ 16 → fit c (freshPool c) ≡ true
+unfolding freshPool
+fresh-fit c l h =
+    sym (lengths-shaped c _ _ _ (record {
+      some-chunk = l;
+      few = h;
+      bits-long = length-repeat c 8 (1 ∷ zeros 7) refl;
+      words-long = length-repeat c 512 (0x40000001 ∷ zeros 511) (ap suc (length-zeros 511));
+      slots-long = length-zeros (4096 * c);
+    }))
+
+-- the fresh call, where it is served
+pub fresh-served : (c : ℕ) (p : Pool) → fit c p ≡ true → freshOf c p ≡ leaves 0 (freshPool c)
+unfolding freshOf
+fresh-served c p e = ap (λ (t : Bool). cond t (leaves 0 (freshPool c)) (leaves 1 p)) e

@@ -28,6 +28,8 @@ use Rattle.blocks.proofs.StoreLaws.{first-stored}
 use Rattle.release.specs.declared.Spot.{Spot}
 use Rattle.release.specs.declared.Sized.{Sized}
 use Rattle.release.specs.declared.Spot.the-variants.{Nowhere, Run, Slot}
+use Rattle.release.specs.declared.Area.{Area}
+use Rattle.release.specs.Areas.{Leads}
 use Rattle.release.specs.Release.{isInner, firstPage, slotSpot, spotIn, spot, giveBack, released, give, releaseOf, sized, sizeAt, sizeOf}
 
 -- ---- what was found
@@ -119,24 +121,31 @@ first-cleared (suc n) l g a h = first-stored 0 n l g h
 
 -- ---- the work of a release
 
-module _ (c : ℕ) (p : Pool) (q : ℕ) where
+-- what is given back, and what is answered
+abbrev gave : Pool → Spot → Left ℕ
+gave p x = leaves (released x) (giveBack p x)
+
+module _ (p : Pool) {x : Spot} where
   -- a refusal
-  pub gave-nothing : (r : ℕ) (x : Spot) → x ≡ Nowhere r → x ≡ spot c p q → leaves r p ≡ give c p q
-  unfolding give
-  gave-nothing r x e f = ap (λ (y : Spot). leaves (released y) (giveBack p y)) (sym e ∙ f)
+  pub gave-nothing : (r : ℕ) → x ≡ Nowhere r → leaves r p ≡ gave p x
+  gave-nothing r e = ap (gave p) (sym e)
 
-  pub gave-run : (g n : ℕ) (x : Spot) → x ≡ Run g n → x ≡ spot c p q → (bs ws : List ℕ) → bs ≡ putBits 0 (p .bits) g n → ws ≡ sets (p .words) g (zeros n)
-      → leaves 0 (pool bs ws (p .slots)) ≡ give c p q
-  unfolding give putRun
-  gave-run g n x e f bs ws a b =
+  pub gave-run : (g n : ℕ) → x ≡ Run g n → (bs ws : List ℕ) → bs ≡ putBits 0 (p .bits) g n → ws ≡ sets (p .words) g (zeros n)
+      → leaves 0 (pool bs ws (p .slots)) ≡ gave p x
+  unfolding putRun
+  gave-run g n e bs ws a b =
       let z : bs ≡ putBits 0 (p .bits) g (length (zeros n)) = a ∙ ap (putBits 0 (p .bits) g) (sym (length-zeros n)) in
-      ap₂ (λ (u v : List ℕ). leaves 0 (pool u v (p .slots))) z b ∙ ap (λ (y : Spot). leaves (released y) (giveBack p y)) (sym e ∙ f)
+      ap₂ (λ (u v : List ℕ). leaves 0 (pool u v (p .slots))) z b ∙ ap (gave p) (sym e)
 
-  pub gave-slot : (g b s : ℕ) (x : Spot) → x ≡ Slot g b s → x ≡ spot c p q → (ss : List ℕ) → ss ≡ putBit 0 (p .slots) (512 * g + s)
-      → leaves 0 (pool (p .bits) (p .words) ss) ≡ give c p q
-  unfolding give putSlot
-  gave-slot g b s x e f ss a =
-      ap (λ (u : List ℕ). leaves 0 (pool (p .bits) (p .words) u)) a ∙ ap (λ (y : Spot). leaves (released y) (giveBack p y)) (sym e ∙ f)
+  pub gave-slot : (g b s : ℕ) → x ≡ Slot g b s → (ss : List ℕ) → ss ≡ putBit 0 (p .slots) (512 * g + s)
+      → leaves 0 (pool (p .bits) (p .words) ss) ≡ gave p x
+  unfolding putSlot
+  gave-slot g b s e ss a = ap (λ (u : List ℕ). leaves 0 (pool (p .bits) (p .words) u)) a ∙ ap (gave p) (sym e)
+
+-- at a place
+pub gave-at : (c : ℕ) (p : Pool) (q : ℕ) {x : Spot} → x ≡ spot c p q → gave p x ≡ give c p q
+unfolding give
+gave-at c p q e = ap (gave p) e
 
 -- what the code found
 pub found : (c : ℕ) (p : Pool) (q : ℕ) {x y : Spot} → x ≡ spot c p q → x ≡ y → There c p q y
@@ -148,6 +157,11 @@ few-slots {b = b} r = let a = any-row b .slots-most in let h = r .slot in omega 
 
 pub size-as : {x y w : Spot} {z : Sized} → x ≡ y → x ≡ w → z ≡ sizeAt y → z ≡ sizeAt w
 size-as e f g = g ∙ ap sizeAt (sym e ∙ f)
+
+-- ---- what the place lies in, as it was matched
+
+pub leads-as : (c : ℕ) (p : Pool) (q : ℕ) {x y : Area} → x ≡ y → Leads c p q x → Leads c p q y
+leads-as c p q e h = subst (Leads c p q) e h
 
 -- ---- behind the check
 

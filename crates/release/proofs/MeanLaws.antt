@@ -1,7 +1,7 @@
 -- What release and block size do to sound records. Assumes nothing.
 use mathlib.Core.Path.{_≡_, refl, sym, ap, _∙_, subst}
 use mathlib.Core.Bool.{cond}
-use Prim.Native.Nat.{ℕ, suc, _+_, _-_, _*_, _/_, _%_, _≤_, _<_}
+use Prim.Native.Nat.{ℕ, zero, suc, _+_, _-_, _*_, _/_, _%_, _≤_, _<_}
 use native.Mathlib.Nat.{mul-le-mul-right, mul-mod-left, mul-div-left}
 use native.Mathlib.Omega.{arith}
 use lib.Dec.{ltb}
@@ -10,17 +10,20 @@ use Rattle.classes.specs.Classes.{size, slots}
 use Rattle.classes.proofs.ClassLaws.{any-row}
 use Rattle.records.specs.Kinds.{Kind, large, class, zeros, behind}
 use Rattle.records.specs.Pool.{Pool, kindAt, slotAt}
+use Rattle.records.specs.Calls.{admitOf, unless, Left}
 use Rattle.records.specs.Runs.{spanOf, InRun}
 use Rattle.records.proofs.Flags.{cond-eq, cond-lt}
 use Rattle.blocks.specs.Blocks.{Block, slotBlock, runBlock}
 use Rattle.blocks.specs.Stores.{Good, Loses, putRun}
-use Rattle.blocks.proofs.KeepLaws.{give-large, give-slot, run-whole}
+use Rattle.blocks.proofs.ApartLaws.{live-inside}
+use Rattle.blocks.proofs.KeepLaws.{give-large, give-slot, run-whole, admit-good, good-admit}
 use Rattle.release.specs.declared.Spot.{Spot}
+use Rattle.release.specs.declared.Sized.{Sized}
 use Rattle.release.specs.declared.Spot.the-variants.{Nowhere, Run, Slot}
-use Rattle.release.specs.Release.{slotSpot, spotIn, spotFrom, spot, giveBack, released, give, sized, sizeAt}
+use Rattle.release.specs.Release.{slotSpot, spotIn, spotFrom, spot, giveBack, released, give, releaseOf, sized, sizeAt, sizeOf}
 use Rattle.release.specs.Means.{ReleaseMeans}
 use Rattle.release.proofs.SpotLaws.{in-run}
-use Rattle.release.proofs.GiveLaws.{There, there}
+use Rattle.release.proofs.GiveLaws.{There, there, release-served}
 
 -- ---- the block that goes
 
@@ -38,6 +41,33 @@ gone c p h q (Run g n) t e =
       subst (λ (m : ℕ). Loses c p (putRun 0 p g (zeros m)) (runBlock g (n - 1))) r (give-large c p h g (n - 1) (t .inside) (t .kind)),
     )
 gone c p h q (Slot g b s) t e = (slotBlock g b s, sym (t .place), refl, give-slot c p h g b s (t .inside) (t .kind) (t .slot) (t .taken))
+
+-- n bytes from the place q on: some, and all of them in a pool of c chunks
+pub record InPool (c q n : ℕ) : Type 0 where
+  pub some : 0 < n
+  pub inside : q + n ≤ 2097152 * c
+
+spot-inside : (c : ℕ) (p : Pool) → Good c p → (q : ℕ) (x : Spot) → There c p q x → sizeAt x .refusal ≡ 0 → InPool c q (sizeAt x .size)
+spot-inside c p h q x t e =
+    let (b, at, n, l) = gone c p h q x t (given x e) in
+    let (z, i) = live-inside c p h (l .less) in
+    let k : sizeAt x .size ≡ b .size = ap (λ (s : Sized). s .size) n in
+    record { some = omega arith; inside = omega arith }
+  where
+    given : (x : Spot) → sizeAt x .refusal ≡ 0 → released x ≡ 0
+    given (Nowhere r) e = e
+    given (Run g n) e = e
+    given (Slot g b s) e = e
+
+-- so lies a block whose size is given
+pub size-inside : (c : ℕ) (p : Pool) (q : ℕ) → sizeOf c p q .refusal ≡ 0 → InPool c q (sizeOf c p q .size)
+unfolding sizeOf
+size-inside c p q = go (admitOf c p) refl
+  where
+    go : (a : ℕ) → admitOf c p ≡ a → unless a (λ r. sized r 0) (sizeAt (spot c p q)) .refusal ≡ 0
+        → InPool c q (unless a (λ r. sized r 0) (sizeAt (spot c p q)) .size)
+    go zero ok e = spot-inside c p (admit-good c p ok) q (spot c p q) (there c p q) e
+    go (suc a) ok e = absurd (omega arith)
 
 -- a refusal changes nothing
 kept : (p : Pool) (x : Spot) (r : ℕ) → released x ≡ suc r → giveBack p x ≡ p
@@ -86,3 +116,15 @@ release-means =
       run = λ c p h g k l e. run-found c p h g l k e;
       slot = λ c p h g b s l e t. slot-found c p h g l b s e t;
     }
+
+-- ---- the call on a good pool
+
+pub release-give : (c : ℕ) (p : Pool) → Good c p → (q : ℕ) → releaseOf c p q ≡ give c p q
+release-give c p h q = sym (release-served c p q 0 (sym (good-admit c p h)) refl refl)
+
+pub release-good : (c : ℕ) (p : Pool) → Good c p → (q : ℕ) → Good c (releaseOf c p q .left)
+release-good c p h q = subst (λ (x : Left ℕ). Good c (x .left)) (sym (release-give c p h q)) (go (give c p q .answer) refl)
+  where
+    go : (r : ℕ) → give c p q .answer ≡ r → Good c (give c p q .left)
+    go zero e = release-means .served c p h q e .3 .good
+    go (suc r) e = subst (Good c) (sym (release-means .refused c p q r e)) h

@@ -1,2 +1,3 @@
 pub mod Release
+pub mod Areas
 pub mod Means

@@ -4,17 +4,27 @@ ghost use Prim.Native.Nat.{ℕ, _+_, _*_, _<_, _≤_};
 ghost use lib.ListN.{length, getD};
 ghost use lib.Seq.{sets};
 ghost use Rattle.bitrow.specs.Row.{putBits};
-ghost use Rattle.records.specs.Kinds.{zeros};
+ghost use Rattle.classes.specs.Classes.{size};
+ghost use Rattle.records.specs.Kinds.{class, slotsOf, zeros};
 ghost use Rattle.records.specs.Pool.{pool};
 ghost use Rattle.records.specs.Calls.{admitOf, leaves};
 ghost use Rattle.release.specs.Means.{ReleaseMeans};
-ghost use Rattle.release.specs.Release.{slotSpot, spot, give, releaseOf, sizeAt, sizeOf};
+ghost use Rattle.release.specs.Release.{slotSpot, spot, released, giveBack, give, releaseOf, sizeAt, sizeOf};
+ghost use Rattle.release.specs.Areas.{Leads, IsSpot};
 
 // What starts at a place: nothing, with the refusal's number; a large run of so many pages; a taken slot of a run.
 pub enum Spot {
     Nowhere(u64),
     Run(usize, usize),
     Slot(usize, usize, usize),
+}
+
+// What a place lies in: nothing that starts there; a large run of so many pages, at its first byte; a run of a class, by its first page
+// and the class.
+pub enum Area {
+    Bare,
+    Large(usize, usize),
+    Class(usize, usize),
 }
 
 // The answer of block size; C reads it as it is.
@@ -24,18 +34,15 @@ pub struct Sized {
     pub size: u64,
 }
 
-// Byte off of a run of class b that starts at page g.
-fn slot_spot(slots: &[u64], g: usize, b: usize, off: usize) -> Spot
-    requires { ⌜ (g < 8192) × (512 * g + 512 ≤ 64 * length (now slots)) × (b < 30) ⌝ }
+// Byte off of a run of class b that starts at page g and is cut into `count` slots of so many bytes.
+pub fn slot_spot(slots: &[u64], g: usize, b: usize, off: usize, bytes: usize, count: usize) -> Spot
+    requires { ⌜ (g < 8192) × (512 * g + 512 ≤ 64 * length (now slots)) × (b < 30) × (bytes ≡ size b) × (count ≡ slotsOf (class b)) ⌝ }
     ensures { λ r. ⌜ r ≡ slotSpot (now (slots .entry)) g b off ⌝ }
 {
-    let row = classes::class_row(b);
-    let size = widths::wide16(row.size);
-    let count = widths::wide16(row.slots);
-    if off % size != 0 {
+    if off % bytes != 0 {
         return Spot::Nowhere(5);
     }
-    let s = off / size;
+    let s = off / bytes;
     if count <= s {
         return Spot::Nowhere(5);
     }
@@ -45,36 +52,58 @@ fn slot_spot(slots: &[u64], g: usize, b: usize, off: usize) -> Spot
     Spot::Nowhere(6)
 }
 
-// What starts at the place q. A page inside a class run has the run's first page in its word; one inside a large run starts nothing.
-pub fn spot_at(c: u64, bits: &[u64], words: &[u32], slots: &[u64], q: u64) -> Spot
+// What the place q lies in, by its page's word. A page inside a class run has the run's first page in its word; one inside a large run
+// starts nothing.
+pub fn area_at(c: u64, bits: &[u64], words: &[u32], slots: &[u64], q: u64) -> Area
     requires { ⌜ admitOf c (pool (now bits) (now words) (now slots)) ≡ 0 ⌝ }
-    ensures { λ r. ⌜ r ≡ spot c (pool (now (bits .entry)) (now (words .entry)) (now (slots .entry))) q ⌝ }
+    ensures { λ r. ⌜ Leads c (pool (now (bits .entry)) (now (words .entry)) (now (slots .entry))) q r ⌝ }
 {
     if 512 * c <= q / 4096 {
-        return Spot::Nowhere(5);
+        return Area::Bare;
     }
     let at = q as usize;
     let g = at / 4096;
     if g % 512 == 0 {
-        return Spot::Nowhere(5);
+        return Area::Bare;
     }
     let w = words[g];
     if 0xC0000000 <= w {
         let k = ((w - 0xC0000000) / 65536) as usize;
         let b = (w % 65536) as usize;
         let f = g - k;
-        return slot_spot(slots, f, b, at - 4096 * f);
+        return Area::Class(f, b);
     }
     if 0x80000000 <= w {
-        return slot_spot(slots, g, (w - 0x80000000) as usize, at - 4096 * g);
+        return Area::Class(g, (w - 0x80000000) as usize);
     }
     if w < 0x40000001 {
-        return Spot::Nowhere(5);
+        return Area::Bare;
     }
     if at % 4096 != 0 {
-        return Spot::Nowhere(5);
+        return Area::Bare;
     }
-    Spot::Run(g, (w - 0x40000000) as usize)
+    Area::Large(g, (w - 0x40000000) as usize)
+}
+
+// What starts at the place q.
+pub fn spot_at(c: u64, bits: &[u64], words: &[u32], slots: &[u64], q: u64) -> Spot
+    requires { ⌜ admitOf c (pool (now bits) (now words) (now slots)) ≡ 0 ⌝ }
+    ensures { λ r. ⌜ r ≡ spot c (pool (now (bits .entry)) (now (words .entry)) (now (slots .entry))) q ⌝ }
+{
+    match area_at(c, bits, words, slots, q) {
+        Area::Bare => {
+            return Spot::Nowhere(5);
+        }
+        Area::Large(g, n) => {
+            return Spot::Run(g, n);
+        }
+        Area::Class(g, b) => {
+            let row = classes::class_row(b);
+            let bytes = widths::wide16(row.size);
+            let count = widths::wide16(row.slots);
+            return slot_spot(slots, g, b, (q as usize) - 4096 * g, bytes, count);
+        }
+    }
 }
 
 // Frees the n pages of a large run that starts at page g. Only its first page has a word to clear.
@@ -86,12 +115,12 @@ fn give_run(bits: &mut [u64], words: &mut [u32], g: usize, n: usize)
     words[g] = 0;
 }
 
-// The work of a release, on records that are sound.
-pub fn release_sound(c: u64, bits: &mut [u64], words: &mut [u32], slots: &mut [u64], q: u64) -> u64
-    requires { ⌜ admitOf c (pool (now bits) (now words) (now slots)) ≡ 0 ⌝ }
-    ensures { λ r. ⌜ leaves r (pool (now (bits .exit)) (now (words .exit)) (now (slots .exit))) ≡ give c (pool (now (bits .entry)) (now (words .entry)) (now (slots .entry))) q ⌝ }
+// Gives back what starts at a place, and answers 0 or the refusal.
+pub fn give_back(c: u64, bits: &mut [u64], words: &mut [u32], slots: &mut [u64], x: Spot) -> u64
+    requires { ⌜ (admitOf c (pool (now bits) (now words) (now slots)) ≡ 0) × (IsSpot c (pool (now bits) (now words) (now slots)) x) ⌝ }
+    ensures { λ r. ⌜ leaves r (pool (now (bits .exit)) (now (words .exit)) (now (slots .exit))) ≡ leaves (released x) (giveBack (pool (now (bits .entry)) (now (words .entry)) (now (slots .entry))) x) ⌝ }
 {
-    match spot_at(c, bits, words, slots, q) {
+    match x {
         Spot::Nowhere(r) => {
             return r;
         }
@@ -104,6 +133,15 @@ pub fn release_sound(c: u64, bits: &mut [u64], words: &mut [u32], slots: &mut [u
             return 0;
         }
     }
+}
+
+// The work of a release, on records that are sound.
+pub fn release_sound(c: u64, bits: &mut [u64], words: &mut [u32], slots: &mut [u64], q: u64) -> u64
+    requires { ⌜ admitOf c (pool (now bits) (now words) (now slots)) ≡ 0 ⌝ }
+    ensures { λ r. ⌜ leaves r (pool (now (bits .exit)) (now (words .exit)) (now (slots .exit))) ≡ give c (pool (now (bits .entry)) (now (words .entry)) (now (slots .entry))) q ⌝ }
+{
+    let x = spot_at(c, bits, words, slots, q);
+    give_back(c, bits, words, slots, x)
 }
 
 // Document 01's release: 0, or refusal 1, 2, 5 or 6 and nothing is changed.

@@ -16,7 +16,7 @@ use Rattle.reserve.specs.declared.Given.the-variants.{Slot, Run}
 use Rattle.reserve.specs.declared.Reserved.{Reserved}
 use Rattle.reserve.specs.Reserve.{plan, perform, slotGiven, answer, attempt, reserveOf}
 use Rattle.reserve.specs.Reserve as reserve
-use Rattle.reserve.specs.Plans.{PlanOk, PlanLow}
+use Rattle.reserve.specs.Plans.{PlanOk, PlanLow, PlanSize}
 use Rattle.reserve.proofs.PlanLaws.{plan-ok}
 use Rattle.reserve.proofs.StoreForms.{slot-few}
 
@@ -38,6 +38,12 @@ large-is e f = cc
 
 pub answer-as : {x y : Plan} {r : Reserved} → x ≡ y → r ≡ answer y → r ≡ answer x
 answer-as e f = f ∙ ap answer (sym e)
+
+pub size-as : {x y : Plan} (z : ℕ) → x ≡ y → PlanSize y z → PlanSize x z
+size-as z e h = subst (λ (w : Plan). PlanSize w z) (sym e) h
+
+pub size-of : {x y : Plan} (z : ℕ) → x ≡ y → PlanSize x z → PlanSize y z
+size-of z e h = subst (λ (w : Plan). PlanSize w z) e h
 
 pub low-as : {x y : Plan} → x ≡ y → PlanLow x → PlanLow y
 low-as e h = subst PlanLow e h

@@ -1,9 +1,9 @@
 -- What a reserve does to sound records, and that it finds what document 01 says. Assumes nothing.
 use mathlib.Core.Path.{_≡_, refl, sym, ap, _∙_, subst}
 use mathlib.Core.Logic.{_≢_, _↔_, by-cases}
-use mathlib.Core.Bool.{Bool, true, false, cond, false≢true}
+use mathlib.Core.Bool.{Bool, true, false, false≢true}
 use mathlib.Core.List.{List}
-use Prim.Native.Nat.{ℕ, suc, _+_, _-_, _*_, _≤_, _<_}
+use Prim.Native.Nat.{ℕ, zero, suc, _+_, _-_, _*_, _≤_, _<_}
 use native.Mathlib.Decide.{ℕ-discrete, decLt}
 use native.Mathlib.Nat.{mul-le-mul-right}
 use native.Mathlib.Omega.{arith}
@@ -14,6 +14,7 @@ use Rattle.classes.specs.Classes.{size, slots, pages}
 use Rattle.classes.proofs.ClassLaws.{any-row, row-facts}
 use Rattle.records.specs.Kinds.{large, class, wordsOf, behind}
 use Rattle.records.specs.Pool.{Pool, kindAt, slotAt}
+use Rattle.records.specs.Calls.{Left}
 use Rattle.records.specs.Runs.{spanOf}
 use Rattle.records.proofs.Flags.{and-made, cond-lt, cond-nlt}
 use Rattle.records.proofs.RunLaws.{sound-runs}
@@ -22,13 +23,16 @@ use Rattle.gaps.specs.declared.Found.the-variants.{At, Nothing}
 use Rattle.gaps.specs.Gaps.{findPages}
 use Rattle.gaps.proofs.Answers.{nothing-none, none-nothing}
 use Rattle.blocks.specs.Stores.{Good, Gains, putRun}
-use Rattle.blocks.proofs.KeepLaws.{put-large, put-slot, put-class}
+use Rattle.blocks.proofs.KeepLaws.{put-large, put-slot, put-class, good-admit}
 use Rattle.reserve.specs.declared.Plan.{Plan}
 use Rattle.reserve.specs.declared.Plan.the-variants.{Refuse, InRun, NewRun, NewLarge}
-use Rattle.reserve.specs.Reserve.{freeSlot, isRunOf, hasSlot, slotPage, ifFound, slotOrRun, planSlot, planRun, plan, perform, answer, attempt}
+use Rattle.reserve.specs.declared.Reserved.{Reserved}
+use Rattle.reserve.specs.Reserve.{freeSlot, isRunOf, hasSlot, slotPage, ifFound, slotOrRun, planSlot, planRun, plan}
+use Rattle.reserve.specs.Reserve.{perform, answer, attempt, reserveOf}
 use Rattle.reserve.specs.Plans.{PlanOk}
 use Rattle.reserve.specs.Means.{blockOf, NoSlot, NoGap, ReserveMeans}
 use Rattle.reserve.proofs.PlanLaws.{free-first, searched, has-free, plan-ok}
+use Rattle.reserve.proofs.AnswerForms.{reserve-served}
 
 -- ---- what is put in
 
@@ -65,7 +69,7 @@ free-above p b g s l e =
     (λ h. omega arith)
 
 -- so a run that has one is found
-found-run : (p : Pool) (b g s : ℕ) → kindAt p g ≡ class b → s < slots b → slotAt p g s ≡ false → hasSlot p b g ≡ true
+pub found-run : (p : Pool) (b g s : ℕ) → kindAt p g ≡ class b → s < slots b → slotAt p g s ≡ false → hasSlot p b g ≡ true
 unfolding hasSlot
 found-run p b g s k l e =
     let a = free-above p b g s l e in
@@ -192,3 +196,16 @@ reserve-means =
       no-slot = slot-refused;
       no-run = run-refused;
     }
+
+-- ---- the call on a good pool
+
+pub reserve-try : (c : ℕ) (p : Pool) → Good c p → (n : ℕ) → reserveOf c p n ≡ attempt c p n
+reserve-try c p h n = sym (reserve-served c p n 0 (sym (good-admit c p h)) refl refl)
+
+pub reserve-good : (c : ℕ) (p : Pool) → Good c p → (n : ℕ) → Good c (reserveOf c p n .left)
+reserve-good c p h n =
+    subst (λ (x : Left Reserved). Good c (x .left)) (sym (reserve-try c p h n)) (go (attempt c p n .answer .refusal) refl)
+  where
+    go : (r : ℕ) → attempt c p n .answer .refusal ≡ r → Good c (attempt c p n .left)
+    go zero e = reserve-means .served c p h n e .good
+    go (suc r) e = subst (Good c) (sym (reserve-means .refused c p n r e)) h

@@ -6,7 +6,7 @@ use mathlib.Core.List.{List}
 use Prim.Native.Nat.{ℕ, zero, suc, _+_, _-_, _*_, _≤_, _<_}
 use native.Mathlib.Decide.{ℕ-discrete}
 use native.Mathlib.Omega.{arith}
-use lib.Dec.{eqb, ltb, leb}
+use lib.Dec.{eqb, ltb}
 use lib.ListN.{getD}
 use borrow.Author.Tests.{eq-eqb, ne-eqb, eqb-true, ltb-true}
 use Rattle.bitrow.specs.Row.{isSet, nextBit}
@@ -25,7 +25,7 @@ use Rattle.gaps.specs.Gaps.{findPages}
 use Rattle.gaps.proofs.Answers.{found-free}
 use Rattle.reserve.specs.declared.Plan.{Plan}
 use Rattle.reserve.specs.declared.Plan.the-variants.{Refuse, InRun, NewRun, NewLarge}
-use Rattle.reserve.specs.Reserve.{freeSlot, isRunOf, hasSlot, slotPage, ifFound, slotOrRun, planSlot, planRun, pagesFor, plan}
+use Rattle.reserve.specs.Reserve.{freeSlot, isRunOf, hasSlot, slotPage, ifFound, slotOrRun, planSlot, planRun, pagesFor, planLarge, plan}
 use Rattle.reserve.specs.Plans.{SlotFree, PagesFree, PlanOk}
 
 -- ---- the lowest free slot of a run
@@ -156,7 +156,7 @@ module _ (c : ℕ) (p : Pool) (s : sound c p ≡ true) where
       go (At g) e = gap-free n g a e
       go Nothing e = omega arith
 
-  slot-ok : (b : ℕ) → b < 30 → PlanOk c p (planSlot c p b)
+  pub slot-ok : (b : ℕ) → b < 30 → PlanOk c p (planSlot c p b)
   unfolding planSlot slotOrRun
   slot-ok b l =
       let s′ = searched p b (512 * c) 0 in
@@ -168,11 +168,15 @@ module _ (c : ℕ) (p : Pool) (s : sound c p ≡ true) where
       go (At g) e = (l, gap-free (pages b) g (row-facts b l .pages-least) e)
       go Nothing e = omega arith
 
+  large-ok : (n : ℕ) → 1 ≤ n → PlanOk c p (planLarge c (p .bits) n)
+  unfolding planLarge
+  large-ok n l = le-cases (PlanOk c p) n 2093056 (λ k. run-ok (pagesFor n) (omega arith)) (λ k. omega arith)
+
 pub plan-ok : (c : ℕ) (p : Pool) → sound c p ≡ true → (n : ℕ) → PlanOk c p (plan c p n)
 unfolding plan
 plan-ok c p s n =
     le-cases (PlanOk c p) n 3072 (λ h. slot-ok c p s (classFor n) (class-smallest n h .class))
-    (λ h. le-cases (PlanOk c p) n 2093056 (λ k. run-ok c p s (pagesFor n) (omega arith)) (λ k. omega arith))
+    (λ h. large-ok c p s n (omega arith))
 
 -- ---- the code's own forms
 
@@ -225,15 +229,18 @@ module _ (c : ℕ) (p : Pool) (n : ℕ) where
   unfolding plan
   plan-small b x l e f = f ∙ ap (planSlot c p) e ∙ sym (cond-le n 3072 _ _ l)
 
-  large-plan : 3072 < n → cond (leb n 2093056) (planRun c (p .bits) (pagesFor n)) (Refuse 3) ≡ plan c p n
+  pub plan-large : (x : Plan) → 3072 < n → x ≡ planLarge c (p .bits) n → x ≡ plan c p n
   unfolding plan
-  large-plan l = sym (cond-nle n 3072 _ _ l)
+  plan-large x l f = f ∙ sym (cond-nle n 3072 _ _ l)
 
-  pub plan-large : (m : ℕ) (x : Plan) → 3072 < n → n ≤ 2093056 → m ≡ pagesFor n → x ≡ planRun c (p .bits) m → x ≡ plan c p n
-  plan-large m x l h e f = f ∙ ap (planRun c (p .bits)) e ∙ sym (cond-le n 2093056 _ _ h) ∙ large-plan l
+module _ (c : ℕ) (bits : List ℕ) (n : ℕ) where
+  pub large-run : (m : ℕ) (x : Plan) → n ≤ 2093056 → m ≡ pagesFor n → x ≡ planRun c bits m → x ≡ planLarge c bits n
+  unfolding planLarge
+  large-run m x h e f = f ∙ ap (planRun c bits) e ∙ sym (cond-le n 2093056 _ _ h)
 
-  pub plan-huge : 2093056 < n → Refuse 3 ≡ plan c p n
-  plan-huge h = sym (cond-nle n 2093056 _ _ h) ∙ large-plan (omega arith)
+  pub large-huge : 2093056 < n → Refuse 3 ≡ planLarge c bits n
+  unfolding planLarge
+  large-huge h = sym (cond-nle n 2093056 _ _ h)
 
 pub class-few : {b n : ℕ} → b < 30 → n ≡ slots b → n ≤ 512
 class-few {b} l e = let h = row-facts b l in omega arith

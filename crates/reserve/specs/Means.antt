@@ -8,7 +8,7 @@ use Rattle.classes.specs.Classes.{size, slots, pages}
 use Rattle.records.specs.Kinds.{class}
 use Rattle.records.specs.Pool.{Pool, kindAt, slotAt}
 use Rattle.gaps.specs.Gaps.{HoldsNone}
-use Rattle.blocks.specs.Blocks.{Block}
+use Rattle.blocks.specs.Blocks.{Block, block}
 use Rattle.blocks.specs.Stores.{Good, Gains}
 use Rattle.reserve.specs.declared.Plan.the-variants.{Refuse, InRun}
 use Rattle.reserve.specs.declared.Reserved.{Reserved}
@@ -16,7 +16,7 @@ use Rattle.reserve.specs.Reserve.{planSlot, planRun, attempt}
 
 -- the block that an answer names
 abbrev pub blockOf : Reserved → Block
-blockOf r = record { place = r .place; size = r .size }
+blockOf r = block (r .place) (r .size)
 
 -- each slot of each run of class b is taken
 abbrev pub NoSlot : ℕ → Pool → ℕ → Type 0

@@ -2,7 +2,7 @@
 use mathlib.Core.Path.{_≡_}
 use mathlib.Core.Bool.{false}
 use Prim.Native.Nat.{ℕ, _+_, _*_, _≤_, _<_}
-use Rattle.classes.specs.Classes.{slots, pages}
+use Rattle.classes.specs.Classes.{size, slots, pages}
 use Rattle.records.specs.Kinds.{free, class}
 use Rattle.records.specs.Pool.{Pool, kindAt, slotAt}
 use Rattle.reserve.specs.declared.Plan.{Plan}
@@ -34,3 +34,10 @@ PlanLow (Refuse r) = Unit {0}
 PlanLow (InRun g b s) = (g < 8192) × (b < 30) × (s < 512)
 PlanLow (NewRun g b) = (g < 8192) × (b < 30)
 PlanLow (NewLarge g n) = (g < 8192) × (n ≤ 511)
+
+-- the size of the slot that a plan is for
+abbrev pub PlanSize : Plan → ℕ → Type 0
+PlanSize (Refuse r) z = Unit {0}
+PlanSize (InRun g b s) z = z ≡ size b
+PlanSize (NewRun g b) z = z ≡ size b
+PlanSize (NewLarge g n) z = Unit {0}

@@ -63,8 +63,12 @@ planRun c bits n = ifFound (findPages c bits n) (λ g. NewLarge g n)
 abbrev pub pagesFor : ℕ → ℕ
 pagesFor n = (n + 4095) / 4096
 
+-- n bytes, more than a slot holds, by the page bits
+unfoldable pub planLarge : ℕ → List ℕ → ℕ → Plan
+planLarge c bits n = cond (leb n 2093056) (planRun c bits (pagesFor n)) (Refuse 3)
+
 unfoldable pub plan : ℕ → Pool → ℕ → Plan
-plan c p n = cond (leb n 3072) (planSlot c p (classFor n)) (cond (leb n 2093056) (planRun c (p .bits) (pagesFor n)) (Refuse 3))
+plan c p n = cond (leb n 3072) (planSlot c p (classFor n)) (planLarge c (p .bits) n)
 
 -- ---- what it stores
 

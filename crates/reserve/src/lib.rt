@@ -6,13 +6,13 @@ ghost use lib.Dec.{eqb, ltb};
 ghost use lib.ListN.{length, getD};
 ghost use lib.Seq.{sets};
 ghost use Rattle.bitrow.specs.Row.{putBits};
-ghost use Rattle.classes.specs.Classes.{pages};
+ghost use Rattle.classes.specs.Classes.{size, pages};
 ghost use Rattle.records.specs.Kinds.{class, large, slotsOf, wordsOf};
 ghost use Rattle.records.specs.Pool.{pool};
 ghost use Rattle.records.specs.Calls.{admitOf, leaves};
-ghost use Rattle.reserve.specs.Reserve.{freeSlot, slotPage, planSlot, planRun, plan, perform, slotGiven, answer, attempt, reserveOf};
+ghost use Rattle.reserve.specs.Reserve.{freeSlot, slotPage, planSlot, planRun, planLarge, plan, perform, slotGiven, answer, attempt, reserveOf};
 ghost use Rattle.reserve.specs.Means.{ReserveMeans};
-ghost use Rattle.reserve.specs.Plans.{PlanOk, PlanLow};
+ghost use Rattle.reserve.specs.Plans.{PlanOk, PlanLow, PlanSize};
 
 // What a reserve will do: refuse with a number; take slot s of the run of class b at page g; start a run of class b at page g; start a
 // large run of n pages at page g.
@@ -45,7 +45,7 @@ pub struct Reserved {
 }
 
 // The number of the lowest free slot of the run of class b at page g, which has n slots; n where none is free.
-fn free_slot(slots: &[u64], g: usize, b: usize, n: usize) -> usize
+pub fn free_slot(slots: &[u64], g: usize, b: usize, n: usize) -> usize
     requires { ⌜ (g < 8192) × (512 * g + 512 ≤ 64 * length (now slots)) × (n ≡ slotsOf (class b)) × (n ≤ 512) ⌝ }
     ensures { λ r. ⌜ r ≡ freeSlot (now (slots .entry)) b g ⌝ }
 {
@@ -80,18 +80,24 @@ fn slot_page(c: u64, bits: &[u64], words: &[u32], slots: &[u64], b: usize, n: us
     end
 }
 
-// A slot of class b: the free one with the lowest place, else one of a new run.
-fn plan_slot(c: u64, bits: &[u64], words: &[u32], slots: &[u64], b: usize) -> Plan
-    requires { ⌜ (admitOf c (pool (now bits) (now words) (now slots)) ≡ 0) × (b < 30) ⌝ }
+// A slot of class b: the lowest free one of the run at page g, of n slots; or, where g is behind the last page, one of a new run.
+pub fn plan_slot(
+    c: u64,
+    bits: &[u64],
+    words: &[u32],
+    slots: &[u64],
+    b: usize,
+    n: usize,
+    g: usize,
+) -> Plan
+    requires { ⌜ (admitOf c (pool (now bits) (now words) (now slots)) ≡ 0) × (b < 30) × (n ≡ slotsOf (class b)) × (g ≡ slotPage (pool (now bits) (now words) (now slots)) b 0 (512 * c)) ⌝ }
     ensures { λ r. ⌜ r ≡ planSlot c (pool (now (bits .entry)) (now (words .entry)) (now (slots .entry))) b ⌝ }
 {
-    let row = classes::class_row(b);
-    let n = widths::wide16(row.slots);
-    let g = slot_page(c, bits, words, slots, b, n);
     if g < 512 * (c as usize) {
         let s = free_slot(slots, g, b, n);
         return Plan::InRun(g, b, s);
     }
+    let row = classes::class_row(b);
     let m = widths::wide16(row.pages);
     match gaps::find_pages(c as usize, bits, m) {
         gaps::Found::At(f) => {
@@ -118,6 +124,18 @@ fn plan_run(c: u64, bits: &[u64], n: usize) -> Plan
     }
 }
 
+// A request of more bytes than a slot holds.
+pub fn plan_large(c: u64, bits: &[u64], n: u64) -> Plan
+    requires { ⌜ (8 * c ≤ length (now bits)) × (c ≤ 16) × (3072 < n) ⌝ }
+    ensures { λ r. ⌜ r ≡ planLarge c (now (bits .entry)) n ⌝ }
+{
+    if 2093056 < n {
+        return Plan::Refuse(3);
+    }
+    let m = ((n + 4095) / 4096) as usize;
+    plan_run(c, bits, m)
+}
+
 // What a reserve of n bytes will do, on records that are sound.
 pub fn plan_for(c: u64, bits: &[u64], words: &[u32], slots: &[u64], n: u64) -> Plan
     requires { ⌜ admitOf c (pool (now bits) (now words) (now slots)) ≡ 0 ⌝ }
@@ -125,13 +143,12 @@ pub fn plan_for(c: u64, bits: &[u64], words: &[u32], slots: &[u64], n: u64) -> P
 {
     if n <= 3072 {
         let b = classes::class_of(n as usize);
-        return plan_slot(c, bits, words, slots, b);
+        let row = classes::class_row(b);
+        let k = widths::wide16(row.slots);
+        let g = slot_page(c, bits, words, slots, b, k);
+        return plan_slot(c, bits, words, slots, b, k, g);
     }
-    if 2093056 < n {
-        return Plan::Refuse(3);
-    }
-    let m = ((n + 4095) / 4096) as usize;
-    plan_run(c, bits, m)
+    plan_large(c, bits, n)
 }
 
 // The words of a new run of class b, of n pages, from page g on.
@@ -169,7 +186,7 @@ fn new_large(bits: &mut [u64], words: &mut [u32], g: usize, n: usize)
 }
 
 // The stores of a plan.
-fn perform_plan(c: u64, bits: &mut [u64], words: &mut [u32], slots: &mut [u64], x: Plan)
+pub fn perform_plan(c: u64, bits: &mut [u64], words: &mut [u32], slots: &mut [u64], x: Plan)
     requires { ⌜ (admitOf c (pool (now bits) (now words) (now slots)) ≡ 0) × (PlanOk c (pool (now bits) (now words) (now slots)) x) ⌝ }
     ensures { λ _. ⌜ pool (now (bits .exit)) (now (words .exit)) (now (slots .exit)) ≡ perform (pool (now (bits .entry)) (now (words .entry)) (now (slots .entry))) x ⌝ }
 {
@@ -192,13 +209,11 @@ fn perform_plan(c: u64, bits: &mut [u64], words: &mut [u32], slots: &mut [u64], 
     }
 }
 
-// Slot s of the run of class b at page g.
-fn slot_given(g: usize, b: usize, s: usize) -> Reserved
-    requires { ⌜ (g < 8192) × (b < 30) × (s < 512) ⌝ }
+// Slot s of the run of class b at page g, of this size.
+pub fn slot_given(g: usize, b: usize, s: usize, bytes: u64) -> Reserved
+    requires { ⌜ ((g < 8192) × (b < 30) × (s < 512)) × (bytes ≡ size b) ⌝ }
     ensures { λ r. ⌜ r ≡ slotGiven g b s ⌝ }
 {
-    let row = classes::class_row(b);
-    let size = widths::wide64(widths::wide16(row.size));
     let first = widths::wide64(g);
     let number = widths::wide64(s);
     let slot = SlotAt {
@@ -208,15 +223,38 @@ fn slot_given(g: usize, b: usize, s: usize) -> Reserved
     };
     Reserved {
         refusal: 0,
-        place: 4096 * first + number * size,
-        size: size,
+        place: 4096 * first + number * bytes,
+        size: bytes,
         kind: Given::Slot(slot),
     }
 }
 
-// What a plan answers.
-fn answer_of(x: Plan) -> Reserved
+// The size of the slot that a plan is for; 0 where it is for none.
+fn plan_size(x: Plan) -> u64
     requires { ⌜ PlanLow x ⌝ }
+    ensures { λ r. ⌜ PlanSize x r ⌝ }
+{
+    match x {
+        Plan::Refuse(r) => {
+            return 0;
+        }
+        Plan::InRun(g, b, s) => {
+            let row = classes::class_row(b);
+            return widths::wide64(widths::wide16(row.size));
+        }
+        Plan::NewRun(g, b) => {
+            let row = classes::class_row(b);
+            return widths::wide64(widths::wide16(row.size));
+        }
+        Plan::NewLarge(g, n) => {
+            return 0;
+        }
+    }
+}
+
+// What a plan answers, with the size of its slot.
+pub fn answer_of(x: Plan, bytes: u64) -> Reserved
+    requires { ⌜ PlanLow x × PlanSize x bytes ⌝ }
     ensures { λ r. ⌜ r ≡ answer x ⌝ }
 {
     match x {
@@ -229,10 +267,10 @@ fn answer_of(x: Plan) -> Reserved
             };
         }
         Plan::InRun(g, b, s) => {
-            return slot_given(g, b, s);
+            return slot_given(g, b, s, bytes);
         }
         Plan::NewRun(g, b) => {
-            return slot_given(g, b, 0);
+            return slot_given(g, b, 0, bytes);
         }
         Plan::NewLarge(g, n) => {
             let pages = widths::wide64(n);
@@ -260,7 +298,8 @@ pub fn reserve_sound(
 {
     let x = plan_for(c, bits, words, slots, n);
     perform_plan(c, bits, words, slots, x);
-    answer_of(x)
+    let bytes = plan_size(x);
+    answer_of(x, bytes)
 }
 
 // Document 01's reserve of n bytes: what was given, or refusal 1, 2, 3 or 4 and nothing is changed.

@@ -18,12 +18,12 @@ use Rattle.classes.proofs.ClassLaws.{any-row, size-read, slots-read}
 use Rattle.records.specs.Kinds.{Kind, edge, free, large, class, inner}
 use Rattle.records.specs.Pool.{Pool, kindAt, slotAt}
 use Rattle.records.specs.Sound.{sound}
-use Rattle.records.specs.Calls.{fit, admitOf}
+use Rattle.records.specs.Calls.{admitOf}
 use Rattle.records.proofs.WordLaws.{page-class, page-large, page-low, page-edge}
-use Rattle.records.proofs.AdmitLaws.{lengths-shaped, admitted}
+use Rattle.records.proofs.AdmitLaws.{admitted}
 use Rattle.blocks.specs.Blocks.{Block, slotBlock, flat, when, blocksAt, pageBlocks, live, Rising, stop, next}
 use Rattle.blocks.proofs.PageLaws.{none-high, kind-blocks, liveFrom, from-start, from-step, from-over}
-use Rattle.blocks.specs.Stores.{Good}
+use Rattle.blocks.proofs.KeepLaws.{admit-good}
 use Rattle.blocks.proofs.ApartLaws.{live-rising}
 use Rattle.totals.specs.declared.Tally.{Tally}
 use Rattle.totals.specs.Totals.{given, tallyOf}
@@ -185,9 +185,6 @@ rising-given (next {b} {l} h z r) = let (x, y) = rising-given r in (omega arith,
 pub record Bounded (c : ℕ) (p : Pool) : Type 0 where
   pub blocks : length (live c p) ≤ 2097152 * c
   pub bytes : given (live c p) ≤ 2097152 * c
-
-pub admit-good : (c : ℕ) (p : Pool) → admitOf c p ≡ 0 → Good c p
-admit-good c p ok = let a = admitted c p ok in record { shape = sym (lengths-shaped c _ _ _ (a .shape)); whole = a .whole }
 
 pub bounded : (c : ℕ) (p : Pool) → admitOf c p ≡ 0 → Bounded c p
 bounded c p ok = let (x, y) = rising-given (live-rising c p (admit-good c p ok)) in record { blocks = omega arith; bytes = omega arith }

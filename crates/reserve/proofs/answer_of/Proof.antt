@@ -1,9 +1,9 @@
 -- `reserve::answer_of` meets its contract. Assumes nothing.
-use mathlib.Core.Path.{refl}
 use Prim.Native.Nat.{_<_, _≤_}
-use native.Mathlib.Omega.{arith}
-use Rattle.reserve.proofs.AnswerForms.{answer-as, low-as, large-is}
+use Rattle.reserve.proofs.AnswerForms.{answer-as, low-as, size-of, large-is}
 use borrow.Author.Needs.{needs}
+use mathlib.Core.Path.{refl}
+use native.Mathlib.Omega.{arith}
 use Rattle.reserve.proofs.answer_of.Statement.{statement}
 use Rattle.reserve.proofs.answer_of.Tie as tie
 
@@ -17,7 +17,7 @@ enum-known-x-2 : tie.Need-enum-known-x-2
 enum-known-x-2 c = search needs
 
 slot-given-requires : tie.Need-slot-given-requires
-slot-given-requires c κs = low-as (c .before .x2 .given .1) (c .before .before .before .pre)
+slot-given-requires c κs = (low-as (c .before .x2 .given .1) (c .before .before .before .pre .0), size-of _ (c .before .x2 .given .1) (c .before .before .before .pre .1))
 
 returns-2 : tie.Need-returns-2
 returns-2 c = answer-as (c .before .before .x2 .given .1) (c .slot-given .ensures)
@@ -27,8 +27,8 @@ enum-known-x-3 c = search needs
 
 slot-given-requires-2 : tie.Need-slot-given-requires-2
 slot-given-requires-2 c κs =
-    let r : (_ < 8192) × (_ < 30) = low-as (c .before .x3 .given .1) (c .before .before .before .pre) in
-    (r .0, r .1, omega arith)
+    let r : (_ < 8192) × (_ < 30) = low-as (c .before .x3 .given .1) (c .before .before .before .pre .0) in
+    ((r .0, r .1, omega arith), size-of _ (c .before .x3 .given .1) (c .before .before .before .pre .1))
 
 returns-3 : tie.Need-returns-3
 returns-3 c = answer-as (c .before .before .x3 .given .1) (c .slot-given2 .ensures)
@@ -42,11 +42,11 @@ wide64-requires c κs = search needs
 wide64-requires-2 : tie.Need-wide64-requires-2
 wide64-requires-2 c κs = search needs
 
-mul-t13 : tie.Need-mul-t13
-mul-t13 c = let r : (_ < 8192) × (_ ≤ 511) = low-as (c .before .before .before .x4 .given .1) (c .before .before .before .before .before .pre) in let a = r .0 in let b = r .1 in let d = c .wide642 .ensures in let e = c .before .wide64 .ensures in record { fits = omega arith }
-
 mul-t14 : tie.Need-mul-t14
-mul-t14 c = let r : (_ < 8192) × (_ ≤ 511) = low-as (c .before .before .before .x4 .given .1) (c .before .before .before .before .before .pre) in let a = r .0 in let b = r .1 in let d = c .wide642 .ensures in let e = c .before .wide64 .ensures in record { fits = omega arith }
+mul-t14 c = let r : (_ < 8192) × (_ ≤ 511) = low-as (c .before .before .before .x4 .given .1) (c .before .before .before .before .before .pre .0) in let a = r .0 in let b = r .1 in let d = c .wide642 .ensures in let e = c .before .wide64 .ensures in record { fits = omega arith }
+
+mul-t15 : tie.Need-mul-t15
+mul-t15 c = let r : (_ < 8192) × (_ ≤ 511) = low-as (c .before .before .before .x4 .given .1) (c .before .before .before .before .before .pre .0) in let a = r .0 in let b = r .1 in let d = c .wide642 .ensures in let e = c .before .wide64 .ensures in record { fits = omega arith }
 
 returns-4 : tie.Need-returns-4
 returns-4 c = answer-as (c .before .before .before .x4 .given .1) (large-is (c .wide642 .ensures) (c .before .wide64 .ensures))
@@ -66,6 +66,6 @@ answer-of-spec =
     enum-known-x-4
     wide64-requires
     wide64-requires-2
-    mul-t13
     mul-t14
+    mul-t15
     returns-4)

@@ -1,11 +1,22 @@
 -- `reserve::plan_slot` meets its contract. Assumes nothing.
-use native.Mathlib.Omega.{arith}
-use Rattle.classes.proofs.ClassLaws.{pages-read, slots-read}
+use Rattle.classes.proofs.ClassLaws.{pages-read}
 use Rattle.records.proofs.AdmitLaws.{admitted}
 use Rattle.reserve.proofs.PlanLaws.{class-few, class-pages, plan-in, plan-new, plan-none}
 use borrow.Author.Needs.{needs}
+use native.Mathlib.Omega.{arith}
 use Rattle.reserve.proofs.plan_slot.Statement.{statement}
 use Rattle.reserve.proofs.plan_slot.Tie as tie
+
+mul-if1 : tie.Need-mul-if1
+mul-if1 c = let a = admitted _ _ (c .before .before .before .pre .0) in let h = a .shape in record { fits = omega arith }
+
+free-slot-requires : tie.Need-free-slot-requires
+free-slot-requires c κs =
+    let a = admitted _ _ (c .before .before .before .before .pre .0) in let h = a .shape in
+    (omega arith, omega arith, c .before .before .before .before .pre .2, class-few (c .before .before .before .before .pre .1) (c .before .before .before .before .pre .2))
+
+returns : tie.Need-returns
+returns c = plan-in _ _ _ _ _ (c .before .before .before .before .before .pre .3) (c .before .if1 .taken) (c .free-slot .ensures)
 
 class-row-requires : tie.Need-class-row-requires
 class-row-requires c κs = search needs
@@ -13,53 +24,33 @@ class-row-requires c κs = search needs
 wide16-requires : tie.Need-wide16-requires
 wide16-requires c κs = search needs
 
-slot-page-requires : tie.Need-slot-page-requires
-slot-page-requires c κs = (c .before .before .before .before .before .pre .0, c .before .before .before .before .before .pre .1, (slots-read _ (c .before .class-row .ensures) (c .wide16 .ensures)))
-
-mul-if1 : tie.Need-mul-if1
-mul-if1 c = let a = admitted _ _ (c .before .before .before .before .before .before .pre .0) in let h = a .shape in record { fits = omega arith }
-
-free-slot-requires : tie.Need-free-slot-requires
-free-slot-requires c κs =
-    let a = admitted _ _ (c .before .before .before .before .before .before .before .pre .0) in let h = a .shape in
-    let e = (slots-read _ (c .before .before .before .class-row .ensures) (c .before .before .wide16 .ensures)) in
-    (omega arith, omega arith, e, class-few (c .before .before .before .before .before .before .before .pre .1) e)
-
-returns : tie.Need-returns
-returns c = plan-in _ _ _ _ _ (c .before .before .slot-page .ensures) (c .before .if1 .taken) (c .free-slot .ensures)
-
-wide16-requires-2 : tie.Need-wide16-requires-2
-wide16-requires-2 c κs = search needs
-
 find-pages-requires : tie.Need-find-pages-requires
 find-pages-requires c κs =
-    let a = admitted _ _ (c .before .before .before .before .before .before .before .before .pre .0) in let h = a .shape in
-    let k = class-pages (c .before .before .before .before .before .before .before .before .pre .1) (pages-read _ (c .before .before .before .before .class-row .ensures) (c .wide162 .ensures)) in
+    let a = admitted _ _ (c .before .before .before .before .before .before .pre .0) in let h = a .shape in
+    let k = class-pages (c .before .before .before .before .before .before .pre .1) (pages-read _ (c .before .class-row .ensures) (c .wide16 .ensures)) in
     (omega arith, omega arith, k)
 
 enum-known-f : tie.Need-enum-known-f
 enum-known-f c = search needs
 
 returns-2 : tie.Need-returns-2
-returns-2 c = plan-new _ _ _ _ _ _ _ (c .before .before .before .before .before .before .slot-page .ensures) (c .before .before .before .before .before .if1 .left) (pages-read _ (c .before .before .before .before .before .before .before .before .class-row .ensures) (c .before .before .before .before .wide162 .ensures)) (c .before .before .before .find-pages .ensures) (c .before .f .given .1)
+returns-2 c = plan-new _ _ _ _ _ _ _ (c .before .before .before .before .before .before .before .before .before .before .pre .3) (c .before .before .before .before .before .before .if1 .left) (pages-read _ (c .before .before .before .before .before .class-row .ensures) (c .before .before .before .before .wide16 .ensures)) (c .before .before .before .find-pages .ensures) (c .before .f .given .1)
 
 enum-told : tie.Need-enum-told
 enum-told c = search needs
 
 returns-3 : tie.Need-returns-3
-returns-3 c = plan-none _ _ _ _ _ _ (c .before .before .before .before .before .slot-page .ensures) (c .before .before .before .before .if1 .left) (pages-read _ (c .before .before .before .before .before .before .before .class-row .ensures) (c .before .before .before .wide162 .ensures)) (c .before .before .find-pages .ensures) (c .enum-told .given .1)
+returns-3 c = plan-none _ _ _ _ _ _ (c .before .before .before .before .before .before .before .before .before .pre .3) (c .before .before .before .before .before .if1 .left) (pages-read _ (c .before .before .before .before .class-row .ensures) (c .before .before .before .wide16 .ensures)) (c .before .before .find-pages .ensures) (c .enum-told .given .1)
 
 pub plan-slot-spec : {M : Type 1} → statement M
 plan-slot-spec =
     tie.close
     (tie.spec
-    class-row-requires
-    wide16-requires
-    slot-page-requires
     mul-if1
     free-slot-requires
     returns
-    wide16-requires-2
+    class-row-requires
+    wide16-requires
     find-pages-requires
     enum-known-f
     returns-2

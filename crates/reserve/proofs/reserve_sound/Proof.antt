@@ -10,8 +10,11 @@ plan-for-requires c κs = search needs
 perform-plan-requires : tie.Need-perform-plan-requires
 perform-plan-requires c κs = (c .before .before .before .before .before .before .before .before .before .before .pre, plan-good _ _ _ _ (c .before .before .before .plan-for .ensures) (c .before .before .before .before .before .before .before .before .before .before .pre))
 
+plan-size-requires : tie.Need-plan-size-requires
+plan-size-requires c κs = plan-low _ _ _ _ (c .before .before .before .before .before .before .before .before .before .before .plan-for .ensures) (c .before .before .before .before .before .before .before .before .before .before .before .before .before .before .before .before .before .pre)
+
 answer-of-requires : tie.Need-answer-of-requires
-answer-of-requires c κs = plan-low _ _ _ _ (c .before .before .before .before .before .before .before .before .before .before .plan-for .ensures) (c .before .before .before .before .before .before .before .before .before .before .before .before .before .before .before .before .before .pre)
+answer-of-requires c κs = (plan-low _ _ _ _ (c .before .before .before .before .before .before .before .before .before .before .before .plan-for .ensures) (c .before .before .before .before .before .before .before .before .before .before .before .before .before .before .before .before .before .before .pre), c .plan-size .ensures)
 
 same-length : tie.Need-same-length
 same-length c = search needs
@@ -23,7 +26,7 @@ same-length-3 : tie.Need-same-length-3
 same-length-3 c = search needs
 
 returns : tie.Need-returns
-returns c = worked _ _ _ _ (c .before .before .before .before .before .before .before .before .before .before .before .plan-for .ensures) _ _ (c .answer-of .ensures) (c .before .before .before .before .before .before .before .perform-plan .ensures)
+returns c = worked _ _ _ _ (c .before .before .before .before .before .before .before .before .before .before .before .before .plan-for .ensures) _ _ (c .answer-of .ensures) (c .before .before .before .before .before .before .before .before .perform-plan .ensures)
 
 pub reserve-sound-spec : {M : Type 1} → statement M
 reserve-sound-spec =
@@ -31,6 +34,7 @@ reserve-sound-spec =
     (tie.spec
     plan-for-requires
     perform-plan-requires
+    plan-size-requires
     answer-of-requires
     same-length
     same-length-2

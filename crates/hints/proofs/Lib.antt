@@ -1,0 +1,4 @@
+pub mod HasLaws
+pub mod RowLaws
+pub mod HintLaws
+pub mod Forms

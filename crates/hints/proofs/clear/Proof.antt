@@ -1,0 +1,53 @@
+-- `hints::clear` meets its contract. Assumes nothing.
+use Prim.Native.Nat.{_-_, _≤_}
+use Rattle.hints.proofs.RowLaws.{cleared-none, cleared-on, cleared-all}
+use Rattle.hints.specs.Hints.{Cleared}
+use borrow.Author.Needs.{needs}
+use native.Mathlib.Omega.{arith}
+use Rattle.hints.proofs.clear.Statement.{statement}
+use Rattle.hints.proofs.clear.Tie as tie
+
+abbrev Inv-loop : tie.InvT-loop
+Inv-loop hints₀ i₀ hints i = (i ≤ 3930) × (Cleared hints i)
+
+abbrev μ-loop : tie.MeasureT-loop
+μ-loop hints₀ i₀ hints i = 3930 - i
+
+loop-holds : tie.Need-loop-holds Inv-loop μ-loop
+loop-holds c = (omega arith, cleared-none _ (c .pre))
+
+mul-hints : tie.Need-mul-hints Inv-loop μ-loop
+mul-hints c = search needs
+
+slice-write-hints : tie.Need-slice-write-hints Inv-loop μ-loop
+slice-write-hints c = let n = c .before .loop .inv .1 in omega arith
+
+add-i : tie.Need-add-i Inv-loop μ-loop
+add-i c = search needs
+
+loop-less : tie.Need-loop-less Inv-loop μ-loop
+loop-less c = search needs
+
+loop-again : tie.Need-loop-again Inv-loop μ-loop
+loop-again c = (omega arith, cleared-on (c .before .loop .inv .1) (omega arith))
+
+same-length : tie.Need-same-length Inv-loop μ-loop
+same-length c = let n = c .before .loop .inv .1 in omega arith
+
+returns : tie.Need-returns Inv-loop μ-loop
+returns c = cleared-all (c .before .loop .inv .1) (c .loop-test .left)
+
+pub clear-spec : {M : Type 1} → statement M
+clear-spec =
+    tie.close
+    (tie.spec
+    Inv-loop
+    μ-loop
+    loop-holds
+    mul-hints
+    slice-write-hints
+    add-i
+    loop-less
+    loop-again
+    same-length
+    returns)

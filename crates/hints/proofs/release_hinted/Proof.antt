@@ -1,0 +1,48 @@
+-- `hints::release_hinted` meets its contract. Assumes nothing.
+use Rattle.hints.proofs.Forms.{spot-near, left-of}
+use Rattle.hints.proofs.HintLaws.{spot-noted}
+use Rattle.release.proofs.GiveLaws.{gave-at}
+use borrow.Author.Needs.{needs}
+use mathlib.Core.Path.{_∙_}
+use Rattle.hints.proofs.release_hinted.Statement.{statement}
+use Rattle.hints.proofs.release_hinted.Tie as tie
+
+spot-hinted-requires : tie.Need-spot-hinted-requires
+spot-hinted-requires c κs = (c .before .before .before .before .before .before .before .before .pre .0, c .before .before .before .before .before .before .before .before .pre .1 .cuts)
+
+note-spot-requires : tie.Need-note-spot-requires
+note-spot-requires c κs = (c .before .before .before .before .before .before .before .before .before .before .pre .1 .cuts .long, spot-near _ _ (c .before .before .before .before .before .before .before .before .before .before .pre .0) _ _ (c .before .spot-hinted .ensures))
+
+give-back-requires : tie.Need-give-back-requires
+give-back-requires c κs = (c .before .before .before .before .before .before .before .before .before .before .before .before .before .before .before .before .pre .0, (_, c .before .before .before .before .before .before .before .spot-hinted .ensures))
+
+same-length : tie.Need-same-length
+same-length c = search needs
+
+same-length-2 : tie.Need-same-length-2
+same-length-2 c = search needs
+
+same-length-3 : tie.Need-same-length-3
+same-length-3 c = search needs
+
+same-length-4 : tie.Need-same-length-4
+same-length-4 c = search needs
+
+returns : tie.Need-returns
+returns c = (
+  c .before .before .before .before .before .before .give-back .ensures ∙ gave-at _ _ _ (c .before .before .before .before .before .before .before .before .before .before .before .before .before .before .spot-hinted .ensures),
+  spot-noted _ _ (c .before .before .before .before .before .before .before .before .before .before .before .before .before .before .before .before .before .before .before .before .before .before .before .pre .0) _ (c .before .before .before .before .before .before .before .before .before .before .before .before .before .before .before .before .before .before .before .before .before .before .before .pre .1) _ _ (c .before .before .before .before .before .before .before .before .before .before .before .before .before .before .spot-hinted .ensures) _ (left-of (c .before .before .before .before .before .before .give-back .ensures)) _ (c .before .before .before .before .before .before .before .before .before .before .before .before .note-spot .ensures),
+)
+
+pub release-hinted-spec : {M : Type 1} → statement M
+release-hinted-spec =
+    tie.close
+    (tie.spec
+    spot-hinted-requires
+    note-spot-requires
+    give-back-requires
+    same-length
+    same-length-2
+    same-length-3
+    same-length-4
+    returns)

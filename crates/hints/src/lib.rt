@@ -1,0 +1,225 @@
+// Reserve and release for a caller that owns sound records and makes many calls: a row of hints is kept beside the records, so that a
+// free slot is found without a walk over the pages, and a class's numbers without its constants.
+ghost use mathlib.Core.Path.{_≡_};
+ghost use Prim.Native.Nat.{_+_, _*_, _<_, _≤_};
+ghost use lib.ListN.{length};
+ghost use Rattle.classes.specs.Classes.{size, entries};
+ghost use Rattle.records.specs.Kinds.{class, slotsOf};
+ghost use Rattle.records.specs.Pool.{pool};
+ghost use Rattle.records.specs.Calls.{admitOf, leaves};
+ghost use Rattle.reserve.specs.Reserve.{slotPage, planSlot, attempt};
+ghost use Rattle.reserve.specs.Plans.{PlanSize};
+ghost use Rattle.release.specs.Release.{spot, give};
+ghost use Rattle.hints.specs.Hints.{Cuts, Hints, Cleared, Fresh, carried, IsPlan, noted, notedSlot, notedPlan, notedSpot, PlanNear, SpotNear};
+
+// All numbers get 0.
+fn clear(hints: &mut [u64])
+    requires { ⌜ length (now hints) ≡ 3930 ⌝ }
+    ensures { λ _. ⌜ Cleared (now (hints .exit)) 3930 ⌝ }
+{
+    let mut i = 0;
+    while i < 3930 {
+        hints[i] = 0;
+        i += 1;
+    }
+}
+
+// The row beside fresh records: no run has a free slot.
+pub fn fresh_hints(hints: &mut [u64])
+    requires { ⌜ length (now hints) ≡ 3930 ⌝ }
+    ensures { λ _. ⌜ Fresh (now (hints .exit)) ⌝ }
+{
+    clear(hints);
+    let rows = classes::class_rows();
+    let mut b = 0;
+    while b < 30 {
+        let row = rows[b];
+        hints[3870 + b] = widths::wide64(widths::wide16(row.size));
+        hints[3900 + b] = widths::wide64(widths::wide16(row.slots));
+        b += 1;
+    }
+}
+
+// The first page at which a run of class b with a free slot starts; behind the last page where there is none.
+fn marked_page(c: u64, bits: &[u64], words: &[u32], slots: &[u64], hints: &[u64], b: usize) -> usize
+    requires { ⌜ (Hints c (pool (now bits) (now words) (now slots)) (now hints)) × (c ≤ 16) × (b < 30) ⌝ }
+    ensures { λ r. ⌜ r ≡ slotPage (pool (now (bits .entry)) (now (words .entry)) (now (slots .entry))) b 0 (512 * c) ⌝ }
+{
+    let row = 8192 * b;
+    let low = hints[3840 + b] as usize;
+    bitrow::next_bit(hints, row + low, row + 512 * (c as usize), true) - row
+}
+
+// Page g of class b gets the mark v, and the class its lowest page.
+fn note(hints: &mut [u64], b: usize, g: usize, low: usize, v: bool)
+    requires { ⌜ (length (now hints) ≡ 3930) × (b < 30) × (g < 8192) ⌝ }
+    ensures { λ _. ⌜ now (hints .exit) ≡ noted (now (hints .entry)) b low g v ⌝ }
+{
+    hints[3840 + b] = widths::wide64(low);
+    bitrow::put_bit(hints, 8192 * b + g, v);
+}
+
+// A slot of the run of class b at page g was taken; answers its size.
+fn note_slot(slots: &[u64], hints: &mut [u64], g: usize, b: usize) -> u64
+    requires { ⌜ (Cuts (now hints)) × (g < 8192) × (b < 30) × (8 * g + 8 ≤ length (now slots)) ⌝ }
+    ensures { λ r. ⌜ (now (hints .exit) ≡ notedSlot (now (slots .entry)) (now (hints .entry)) g b) × (r ≡ size b) ⌝ }
+{
+    let bytes = hints[3870 + b];
+    let n = hints[3900 + b] as usize;
+    let v = reserve::free_slot(slots, g, b, n) < n;
+    note(hints, b, g, g, v);
+    bytes
+}
+
+// A plan was performed; answers the size of its slot, 0 where it is for none.
+fn note_plan(slots: &[u64], hints: &mut [u64], x: reserve::Plan) -> u64
+    requires { ⌜ (Cuts (now hints)) × (PlanNear (length (now slots)) x) ⌝ }
+    ensures { λ r. ⌜ (now (hints .exit) ≡ notedPlan (now (slots .entry)) (now (hints .entry)) x) × (PlanSize x r) ⌝ }
+{
+    match x {
+        reserve::Plan::Refuse(r) => {
+            return 0;
+        }
+        reserve::Plan::InRun(g, b, s) => {
+            return note_slot(slots, hints, g, b);
+        }
+        reserve::Plan::NewRun(g, b) => {
+            return note_slot(slots, hints, g, b);
+        }
+        reserve::Plan::NewLarge(g, n) => {
+            return 0;
+        }
+    }
+}
+
+// Takes the lowest free slot of the run of class b at page g, the first that has one; the run has n slots.
+fn take_slot(
+    c: u64,
+    bits: &[u64],
+    words: &[u32],
+    slots: &mut [u64],
+    hints: &mut [u64],
+    g: usize,
+    b: usize,
+    n: usize,
+) -> reserve::Reserved
+    requires { ⌜ (admitOf c (pool (now bits) (now words) (now slots)) ≡ 0) × (Hints c (pool (now bits) (now words) (now slots)) (now hints)) × (b < 30) × (n ≡ slotsOf (class b)) × (g ≡ slotPage (pool (now bits) (now words) (now slots)) b 0 (512 * c)) × (g < 512 * c) ⌝ }
+    ensures { λ r. ⌜ (leaves r (pool (now (bits .entry)) (now (words .entry)) (now (slots .exit))) ≡ carried (pool (now (bits .entry)) (now (words .entry)) (now (slots .entry))) (planSlot c (pool (now (bits .entry)) (now (words .entry)) (now (slots .entry))) b)) × (Hints c (pool (now (bits .entry)) (now (words .entry)) (now (slots .exit))) (now (hints .exit))) ⌝ }
+{
+    let s = reserve::free_slot(slots, g, b, n);
+    let i = 512 * g + s;
+    bitrow::put_bit(slots, i, true);
+    let end = 512 * g + n;
+    let more = bitrow::next_bit(slots, i, end, false) < end;
+    let bytes = hints[3870 + b];
+    note(hints, b, g, g, more);
+    reserve::slot_given(g, b, s, bytes)
+}
+
+// Performs a plan.
+fn carry_out(
+    c: u64,
+    bits: &mut [u64],
+    words: &mut [u32],
+    slots: &mut [u64],
+    hints: &mut [u64],
+    x: reserve::Plan,
+) -> reserve::Reserved
+    requires { ⌜ (admitOf c (pool (now bits) (now words) (now slots)) ≡ 0) × (Hints c (pool (now bits) (now words) (now slots)) (now hints)) × (IsPlan c (pool (now bits) (now words) (now slots)) x) ⌝ }
+    ensures { λ r. ⌜ (leaves r (pool (now (bits .exit)) (now (words .exit)) (now (slots .exit))) ≡ carried (pool (now (bits .entry)) (now (words .entry)) (now (slots .entry))) x) × (Hints c (pool (now (bits .exit)) (now (words .exit)) (now (slots .exit))) (now (hints .exit))) ⌝ }
+{
+    reserve::perform_plan(c, bits, words, slots, x);
+    let bytes = note_plan(slots, hints, x);
+    reserve::answer_of(x, bytes)
+}
+
+// The work of a reserve, with hints and the table of classes.
+pub fn reserve_hinted(
+    c: u64,
+    bits: &mut [u64],
+    words: &mut [u32],
+    slots: &mut [u64],
+    n: u64,
+    hints: &mut [u64],
+    table: &[u8],
+) -> reserve::Reserved
+    requires { ⌜ (admitOf c (pool (now bits) (now words) (now slots)) ≡ 0) × (Hints c (pool (now bits) (now words) (now slots)) (now hints)) × (now table ≡ entries) ⌝ }
+    ensures { λ r. ⌜ (leaves r (pool (now (bits .exit)) (now (words .exit)) (now (slots .exit))) ≡ attempt c (pool (now (bits .entry)) (now (words .entry)) (now (slots .entry))) n) × (Hints c (pool (now (bits .exit)) (now (words .exit)) (now (slots .exit))) (now (hints .exit))) ⌝ }
+{
+    if n <= 3072 {
+        let b = classes::class_in(table, n as usize);
+        let k = hints[3900 + b] as usize;
+        let g = marked_page(c, bits, words, slots, hints, b);
+        if g < 512 * (c as usize) {
+            return take_slot(c, bits, words, slots, hints, g, b, k);
+        }
+        let x = reserve::plan_slot(c, bits, words, slots, b, k, g);
+        return carry_out(c, bits, words, slots, hints, x);
+    }
+    let x = reserve::plan_large(c, bits, n);
+    carry_out(c, bits, words, slots, hints, x)
+}
+
+// What starts at the place q.
+fn spot_hinted(
+    c: u64,
+    bits: &[u64],
+    words: &[u32],
+    slots: &[u64],
+    q: u64,
+    hints: &[u64],
+) -> release::Spot
+    requires { ⌜ (admitOf c (pool (now bits) (now words) (now slots)) ≡ 0) × (Cuts (now hints)) ⌝ }
+    ensures { λ r. ⌜ r ≡ spot c (pool (now (bits .entry)) (now (words .entry)) (now (slots .entry))) q ⌝ }
+{
+    match release::area_at(c, bits, words, slots, q) {
+        release::Area::Bare => {
+            return release::Spot::Nowhere(5);
+        }
+        release::Area::Large(g, n) => {
+            return release::Spot::Run(g, n);
+        }
+        release::Area::Class(g, b) => {
+            let bytes = hints[3870 + b] as usize;
+            let count = hints[3900 + b] as usize;
+            return release::slot_spot(slots, g, b, (q as usize) - 4096 * g, bytes, count);
+        }
+    }
+}
+
+// What starts at a place is given back.
+fn note_spot(hints: &mut [u64], x: release::Spot)
+    requires { ⌜ (length (now hints) ≡ 3930) × (SpotNear x) ⌝ }
+    ensures { λ _. ⌜ now (hints .exit) ≡ notedSpot (now (hints .entry)) x ⌝ }
+{
+    match x {
+        release::Spot::Nowhere(r) => {
+            return;
+        }
+        release::Spot::Run(g, n) => {
+            return;
+        }
+        release::Spot::Slot(g, b, s) => {
+            let low = bitrow::least(hints[3840 + b] as usize, g);
+            note(hints, b, g, low, true);
+            return;
+        }
+    }
+}
+
+// The work of a release, with hints.
+pub fn release_hinted(
+    c: u64,
+    bits: &mut [u64],
+    words: &mut [u32],
+    slots: &mut [u64],
+    q: u64,
+    hints: &mut [u64],
+) -> u64
+    requires { ⌜ (admitOf c (pool (now bits) (now words) (now slots)) ≡ 0) × (Hints c (pool (now bits) (now words) (now slots)) (now hints)) ⌝ }
+    ensures { λ r. ⌜ (leaves r (pool (now (bits .exit)) (now (words .exit)) (now (slots .exit))) ≡ give c (pool (now (bits .entry)) (now (words .entry)) (now (slots .entry))) q) × (Hints c (pool (now (bits .exit)) (now (words .exit)) (now (slots .exit))) (now (hints .exit))) ⌝ }
+{
+    let x = spot_hinted(c, bits, words, slots, q, hints);
+    note_spot(hints, x);
+    release::give_back(c, bits, words, slots, x)
+}
