@@ -1,0 +1,80 @@
+-- Demand 3: a book that is kept is what a census lists. Assumes nothing.
+use mathlib.Core.Path.{_≡_, refl, sym, ap, _∙_, subst}
+use mathlib.Core.Bool.{Bool, true, false, cond}
+use mathlib.Core.List.{List, [], _++_, List·Memᴰ}
+use Prim.Native.Nat.{ℕ, _*_, _≤_}
+use native.Mathlib.Omega.{arith}
+use lib.ListN.{length, drop}
+use Rattle.records.specs.Kinds.{zeros}
+use Rattle.records.specs.Pool.{Pool, pool}
+use Rattle.records.specs.Calls.{fit, Left, leaves, freshPool, freshOf}
+use Rattle.records.proofs.KindLaws.{length-zeros}
+use Rattle.records.proofs.AdmitLaws.{lengths-shaped}
+use Rattle.records.proofs.FreshLaws.{fresh-served}
+use Rattle.blocks.specs.Blocks.{Block, live, Rising}
+use Rattle.blocks.proofs.ApartLaws.{live-rising, live-off}
+use Rattle.census.specs.Census.{wordsFor, counted, listed, censusOf}
+use Rattle.census.proofs.MeanLaws.{census-means}
+use Rattle.series.specs.Demand3.{State, state, sort, Demand3, Claim}
+use Rattle.series.proofs.BookLaws.{length-sort, in-sort, rising-apart}
+use Rattle.series.proofs.KeepLaws.{Booked, fresh-noted, series-keeps}
+
+-- ---- what the book says
+
+module _ (c : ℕ) (x : State) (h : Booked c x) where
+  count : length (live c (x .pool)) ≡ length (x .book)
+  count = ap length (h .listed) ∙ length-sort (x .book)
+
+  census-lists : (room : List ℕ) → 2 * length (x .book) ≤ length room
+      → censusOf c (x .pool) room
+      ≡ listed (counted 0 (length (x .book))) (wordsFor (sort (x .book)) ++ drop (2 * length (x .book)) room)
+  census-lists room k =
+      let n = count in
+      census-means .served c (x .pool) room (h .good) (omega arith)
+      ∙ ap (λ (m : ℕ). listed (counted 0 m) (wordsFor (live c (x .pool)) ++ drop (2 * m) room)) n
+      ∙ ap (λ (l : List Block). listed (counted 0 (length (x .book))) (wordsFor l ++ drop (2 * length (x .book)) room)) (h .listed)
+
+  book-rising : Rising 0 (sort (x .book)) (2097152 * c)
+  book-rising = subst (λ (l : List Block). Rising 0 l (2097152 * c)) (h .listed) (live-rising c (x .pool) (h .good))
+
+  booked-demand : Demand3 c x
+  booked-demand =
+      let n = length-sort (x .book) in
+      record {
+        census = census-lists;
+        rising = book-rising;
+        apart = λ i j a b. rising-apart book-rising i j (omega arith) (omega arith);
+        off = λ b m q y. live-off c (x .pool) (h .good) b (subst (List·Memᴰ b) (sym (h .listed)) (in-sort m)) q (y .0) (y .1);
+      }
+
+-- ---- the start
+
+-- a fresh call that is not refused fits
+fresh-fits : (c : ℕ) (p : Pool) → freshOf c p .answer ≡ 0 → fit c p ≡ true
+unfolding freshOf
+fresh-fits c p e = go (fit c p) refl e
+  where
+    go : (v : Bool) → fit c p ≡ v → _≡_ {A = ℕ} (cond v (leaves 0 (freshPool c)) (leaves 1 p) .answer) 0 → fit c p ≡ true
+    go true k z = k
+    go false k z = absurd (omega arith)
+
+-- buffers of the right lengths, of zeros
+zeros-open : (c : ℕ) → 1 ≤ c → c ≤ 16 → freshOf c (pool (zeros (8 * c)) (zeros (512 * c)) (zeros (4096 * c))) .answer ≡ 0
+zeros-open c l m =
+    ap (λ (y : Left ℕ). y .answer)
+    (fresh-served c (pool (zeros (8 * c)) (zeros (512 * c)) (zeros (4096 * c)))
+    (sym (lengths-shaped c _ _ _ (record {
+      some-chunk = l;
+      few = m;
+      bits-long = length-zeros (8 * c);
+      words-long = length-zeros (512 * c);
+      slots-long = length-zeros (4096 * c);
+    }))))
+
+pub claim : Claim
+claim =
+    record {
+      opens = zeros-open;
+      demand3 = λ c p e calls.
+          booked-demand c _ (series-keeps c calls (state (freshOf c p .left) []) (fresh-noted c p (fresh-fits c p e)));
+    }

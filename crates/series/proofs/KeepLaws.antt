@@ -1,0 +1,207 @@
+-- Each call keeps the book: it holds the live blocks, in any order. Assumes nothing.
+use mathlib.Core.Path.{_≡_, refl, sym, ap, _∙_, subst}
+use mathlib.Core.Logic.{_≢_}
+use mathlib.Core.Bool.{Bool, true, false, cond}
+use mathlib.Core.List.{List, [], _∷_}
+use Prim.Native.Nat.{ℕ, zero, suc, _-_}
+use native.Mathlib.Omega.{arith}
+use lib.Dec.{eqb, ltb}
+use lib.ListN.{length}
+use Rattle.records.specs.Pool.{Pool}
+use Rattle.records.specs.Calls.{fit, admitOf, unless, Left, leaves, freshPool, freshOf}
+use Rattle.records.proofs.Flags.{eq-cases}
+use Rattle.records.proofs.AdmitLaws.{shaped-lengths}
+use Rattle.records.proofs.FreshLaws.{fresh-served}
+use Rattle.blocks.specs.Blocks.{Block, live}
+use Rattle.blocks.specs.Stores.{Good, Gains, Loses}
+use Rattle.blocks.proofs.ApartLaws.{live-rising}
+use Rattle.blocks.proofs.KeepLaws.{admit-good, fresh-empty, fresh-good}
+use Rattle.reserve.specs.declared.Reserved.{Reserved}
+use Rattle.reserve.specs.Reserve.{refused, attempt, reserveOf}
+use Rattle.reserve.specs.Means.{blockOf}
+use Rattle.reserve.proofs.MeanLaws.{reserve-means}
+use Rattle.release.specs.Release.{give, releaseOf}
+use Rattle.release.proofs.MeanLaws.{release-means}
+use Rattle.replay.specs.declared.Event.{Event}
+use Rattle.replay.specs.Run.{reserveEvent, releaseEvent, Run, ended, runFrom, runOf, replayOf}
+use Rattle.replay.proofs.RunLaws.{over-from}
+use Rattle.lines.specs.Lines.{roomFor, printed, told, telling, printedOf}
+use Rattle.series.specs.Demand3.{takeOut, note, notes, State, state, call, series, insert, sort}
+use Rattle.series.specs.Demand3.{Call, check, fresh, totals, reserve, release, blockSize, next, census, replay, lines, bytes}
+use Rattle.series.proofs.BookLaws.{ins-insert, ins-out, sort-out}
+
+-- the pool is good, and its live blocks are the book's by rising place
+pub record Booked (c : ℕ) (x : State) : Type 0 where
+  pub good : Good c (x .pool)
+  pub listed : live c (x .pool) ≡ sort (x .book)
+
+-- ---- one block more or less
+
+gained : (c : ℕ) (x : State) (p : Pool) (b : Block) → Booked c x → Gains c (x .pool) p b → Booked c (state p (b ∷ x .book))
+unfolding sort
+gained c x p b h g =
+    record { good = g .good; listed = sym (ap (insert b) (sym (h .listed)) ∙ ins-insert (g .more) (live-rising c p (g .good))) }
+
+lost : (c : ℕ) (x : State) (p : Pool) (q : ℕ) (b : Block) → Booked c x → b .place ≡ q → Loses c (x .pool) p b
+    → Booked c (state p (takeOut q (x .book)))
+lost c x p q b h e g =
+    record {
+      good = g .good;
+      listed =
+          sym (sort-out q (x .book) ∙ ap (takeOut q) (sym (h .listed)) ∙ ap (λ (n : ℕ). takeOut n (live c (x .pool))) (sym e)
+          ∙ ins-out (g .less) (live-rising c (x .pool) (h .good)));
+    }
+
+-- ---- a call with its answer
+
+-- a refusal, r, changes nothing
+kept : (c : ℕ) (x : State) (p : Pool) (r : ℕ) → Booked c x → r ≢ 0 → ((k : ℕ) → r ≡ suc k → p ≡ x .pool) → Booked c (state p (x .book))
+kept c x p r h n e = subst (λ (q : Pool). Booked c (state q (x .book))) (sym (e (r - 1) (omega arith))) h
+
+reserve-noted : (c n : ℕ) (x : State) (y : Left Reserved) → Booked c x
+    → (y .answer .refusal ≡ 0 → Gains c (x .pool) (y .left) (blockOf (y .answer)))
+    → ((k : ℕ) → y .answer .refusal ≡ suc k → y .left ≡ x .pool) → Booked c (state (y .left) (note (reserveEvent n (y .answer)) (x .book)))
+unfolding note reserveEvent
+reserve-noted c n x y h f g =
+    eq-cases (λ (e : Event). Booked c (state (y .left) (note e (x .book)))) (y .answer .refusal) 0
+    (λ e. gained c x (y .left) (blockOf (y .answer)) h (f e)) (λ e. kept c x (y .left) (y .answer .refusal) h e g)
+
+release-noted : (c q : ℕ) (x : State) (y : Left ℕ) → Booked c x
+    → (y .answer ≡ 0 → (b : Block) × (b .place ≡ q) × Loses c (x .pool) (y .left) b)
+    → ((k : ℕ) → y .answer ≡ suc k → y .left ≡ x .pool) → Booked c (state (y .left) (note (releaseEvent q (y .answer)) (x .book)))
+unfolding note releaseEvent
+release-noted c q x y h f g =
+    eq-cases (λ (e : Event). Booked c (state (y .left) (note e (x .book)))) (y .answer) 0
+    (λ e. let (b, at, less) = f e in lost c x (y .left) q b h at less) (λ e. kept c x (y .left) (y .answer) h e g)
+
+pub fresh-noted : (c : ℕ) (p : Pool) → fit c p ≡ true → Booked c (state (freshOf c p .left) [])
+unfolding sort
+fresh-noted c p e =
+    record { good = fresh-good c p e; listed = ap (λ (y : Left ℕ). live c (y .left)) (fresh-served c p e) ∙ fresh-empty c }
+
+-- ---- a call of d chunks on a pool of c chunks
+
+-- buffers fit one number of chunks
+fit-one : (c d : ℕ) (p : Pool) → fit c p ≡ true → fit d p ≡ true → d ≡ c
+fit-one c d p e f =
+    let a = shaped-lengths c _ _ _ e .bits-long in
+    let b = shaped-lengths d _ _ _ f .bits-long in
+    omega arith
+
+module _ (c d : ℕ) (x : State) (h : Booked c x) where
+  -- what is done behind refusal 1 is a call of c chunks
+  fit-cases : {A : Type 0} (P : A → Type 0) (f : ℕ → A) {y : A} → P (f c) → P y → P (cond (fit d (x .pool)) (f d) y)
+  fit-cases P f {y} g r = go (fit d (x .pool)) refl
+    where
+      go : (v : Bool) → fit d (x .pool) ≡ v → P (cond v (f d) y)
+      go true e = subst (λ (m : ℕ). P (f m)) (sym (fit-one c d (x .pool) (h .good .shape) e)) g
+      go false e = r
+
+  -- and so behind refusals 1 and 2
+  admit-cases : {A : Type 0} (P : A → Type 0) (f refuse : ℕ → A) → P (f c) → ((r : ℕ) → P (refuse (suc r)))
+      → P (unless (admitOf d (x .pool)) refuse (f d))
+  admit-cases P f refuse g r = go (admitOf d (x .pool)) refl
+    where
+      go : (n : ℕ) → admitOf d (x .pool) ≡ n → P (unless n refuse (f d))
+      go zero e = subst (λ (m : ℕ). P (f m)) (sym (fit-one c d (x .pool) (h .good .shape) (admit-good d (x .pool) e .shape))) g
+      go (suc n) e = r n
+
+  fresh-keeps : Booked c (call (fresh d) x)
+  unfolding call note freshOf
+  fresh-keeps =
+      let e = h .good .shape in
+      fit-cases (λ (y : Left ℕ). Booked c (state (y .left) (cond (eqb (y .answer) 0) [] (x .book)))) (λ m. leaves 0 (freshPool m))
+      (subst (λ (y : Left ℕ). Booked c (state (y .left) [])) (fresh-served c (x .pool) e) (fresh-noted c (x .pool) e)) h
+
+  reserve-keeps : (n : ℕ) → Booked c (call (reserve d n) x)
+  unfolding call reserveOf
+  reserve-keeps n =
+      admit-cases (λ (y : Left Reserved). Booked c (state (y .left) (note (reserveEvent n (y .answer)) (x .book))))
+      (λ m. attempt m (x .pool) n) (λ r. leaves (refused r) (x .pool))
+      (reserve-noted c n x (attempt c (x .pool) n) h (reserve-means .served c (x .pool) (h .good) n) (reserve-means .refused c (x .pool) n))
+      (λ r. reserve-noted c n x (leaves (refused (suc r)) (x .pool)) h (λ e. absurd (omega arith)) (λ k e. refl))
+
+  release-keeps : (q : ℕ) → Booked c (call (release d q) x)
+  unfolding call releaseOf
+  release-keeps q =
+      admit-cases (λ (y : Left ℕ). Booked c (state (y .left) (note (releaseEvent q (y .answer)) (x .book))))
+      (λ m. give m (x .pool) q) (λ r. leaves r (x .pool))
+      (release-noted c q x (give c (x .pool) q) h
+      (λ e. let (b, at, size, less) = release-means .served c (x .pool) (h .good) q e in (b, at, less))
+      (release-means .refused c (x .pool) q))
+      (λ r. release-noted c q x (leaves (suc r) (x .pool)) h (λ e. absurd (omega arith)) (λ k e. refl))
+
+-- ---- a replay
+
+-- the fields of a run, booked
+abbrev ran : State → Run → State
+ran x r = state (r .left) (notes (r .events) (x .book))
+
+run-keeps : (c : ℕ) (x : State) → Booked c x → (k : ℕ) (log : List ℕ) (at turn : ℕ) → Booked c (ran x (runFrom k c (x .pool) log at turn))
+unfolding call note notes
+run-keeps c x h k log at turn =
+    over-from c (λ (p : Pool) (r : Run). (book : List Block) → Booked c (state p book) → Booked c (ran (state p book) r))
+    (record {
+      stop = λ p r q book g. g;
+      fresh = λ p r later book g. later [] (fresh-noted c p (g .good .shape));
+      reserve = λ p n r later book g. later _ (reserve-keeps c c (state p book) g n);
+      release = λ p q r later book g. later _ (release-keeps c c (state p book) g q);
+      end = λ p r later book g. later book g;
+    }) k (x .pool) log at turn (x .book) h
+
+-- the printed lines leave what the replay leaves, unless the buffer is refused
+lines-left : (d : ℕ) (p : Pool) (log out : List ℕ)
+    → printedOf d p log out .left ≡ cond (ltb (length out) (roomFor (length log))) p (runOf d p log .left)
+unfolding printedOf telling runOf
+lines-left d p log out = go (fit d p) (ltb (length out) (roomFor (length log))) (runFrom (suc (length log)) d p log 0 0)
+  where
+    go : (v t : Bool) (r : Run)
+        → cond v (cond t (told (printed 7 0 0) p out) (telling d (cond v r (ended 1 0 p)) out)) (told (printed 1 0 0) p out) .left
+        ≡ cond t p (cond v r (ended 1 0 p) .left)
+    go true true r = refl
+    go true false r = refl
+    go false true r = refl
+    go false false r = refl
+
+module _ (c d : ℕ) (x : State) (h : Booked c x) (log : List ℕ) where
+  replay-keeps : Booked c (call (replay d log) x)
+  unfolding call replayOf runOf notes
+  replay-keeps =
+      fit-cases c d x h (λ (r : Run). Booked c (ran x r)) (λ m. runFrom (suc (length log)) m (x .pool) log 0 0)
+      (run-keeps c x h (suc (length log)) log 0 0) h
+
+  lines-keeps : (out : List ℕ) → Booked c (call (lines d log out) x)
+  unfolding call replayOf
+  lines-keeps out =
+      subst (λ (p : Pool). Booked c (state p (cond short (x .book) (x′ .book)))) (sym (lines-left d (x .pool) log out)) (go short)
+    where
+      short : Bool
+      short = ltb (length out) (roomFor (length log))
+
+      x′ : State
+      x′ = ran x (runOf d (x .pool) log)
+
+      go : (t : Bool) → Booked c (state (cond t (x .pool) (x′ .pool)) (cond t (x .book) (x′ .book)))
+      go true = h
+      go false = replay-keeps
+
+-- ---- any call, and any series
+
+call-keeps : (c : ℕ) (a : Call) (x : State) → Booked c x → Booked c (call a x)
+unfolding call
+call-keeps c (fresh d) x h = fresh-keeps c d x h
+call-keeps c (reserve d n) x h = reserve-keeps c d x h n
+call-keeps c (release d q) x h = release-keeps c d x h q
+call-keeps c (replay d log) x h = replay-keeps c d x h log
+call-keeps c (lines d log out) x h = lines-keeps c d x h log out
+call-keeps c (check d) x h = h
+call-keeps c (blockSize d q) x h = h
+call-keeps c (next d q) x h = h
+call-keeps c (census d room) x h = h
+call-keeps c (totals d) x h = h
+call-keeps c (bytes ear d q left right) x h = h
+
+pub series-keeps : (c : ℕ) (calls : List Call) (x : State) → Booked c x → Booked c (series calls x)
+unfolding series
+series-keeps c [] x h = h
+series-keeps c (a ∷ l) x h = series-keeps c l (call a x) (call-keeps c a x h)

@@ -1,0 +1,3 @@
+pub mod BookLaws
+pub mod KeepLaws
+pub mod ClaimLaws
