@@ -1,0 +1,164 @@
+-- Laws of the drawings. Assumes nothing.
+use mathlib.Core.Path.{_≡_, sym, ap, _∙_}
+use mathlib.Core.Logic.{_≢_}
+use mathlib.Core.Bool.{Bool, true, false}
+use mathlib.Core.List.{List, [], _++_, append-assoc, append-nil}
+use Prim.Native.Nat.{ℕ, suc, _+_, _-_, _*_, _≤_, _<_}
+use native.Mathlib.Nat.{mul-suc}
+use native.Mathlib.Omega.{arith}
+use lib.ListN.{length, take}
+use lib.Seq.{length-take-le}
+use Rattle.text.specs.Text.{Appends}
+use Rattle.text.proofs.TextLaws.{appends-none, appends-more, appends-length}
+use Rattle.totals.specs.declared.Sums.{Sums}
+use Rattle.totals.specs.Totals.{tallied}
+use Rattle.records.specs.Calls.{admitOf}
+use Rattle.records.proofs.Flags.{cond-lt, cond-nlt}
+use Rattle.records.proofs.AdmitLaws.{refused, served}
+use Rattle.records.specs.Pool.{Pool}
+use Rattle.cells.specs.declared.Cell.{Cell}
+use Rattle.cells.specs.Cells.{noCell, cellAt}
+use Rattle.pagemap.specs.Drawing.{only, textPage, textFoot, svgHead, svgPage, svgFoot, headOf, pageOf, footOf, pagesFrom}
+use Rattle.pagemap.specs.Drawing.{headRoom, pageRoom, footRoom, roomFor, drawing, Shown, drawnAs, shown, showing, drawnOf}
+use Rattle.cells.proofs.CellLaws.{Shows}
+
+-- ---- texts by a test
+
+module _ (v : Bool) (t : List ℕ) {a : List ℕ} {i : ℕ} where
+  pub only-here : v ≡ true → {b : List ℕ} {j : ℕ} → Appends a b i j t → Appends a b i j (only v t)
+  unfolding only
+  only-here e w = rw e w
+
+  pub only-else : v ≡ false → Appends a a i i (only v t)
+  unfolding only
+  only-else e = rw e appends-none
+
+-- ---- a page, as SVG or as text
+
+module _ {v : Bool} (g : ℕ) (s : Cell) {a b : List ℕ} {i j : ℕ} where
+  pub page-svg : v ≡ true → Appends a b i j (svgPage g s) → j ≤ i + 420 → (Appends a b i j (pageOf v g s)) × (j ≤ i + pageRoom v)
+  page-svg e w h = rw e (w, h)
+
+  pub page-text : v ≡ false → Appends a b i j (textPage g s) → j ≤ i + 29 → (Appends a b i j (pageOf v g s)) × (j ≤ i + pageRoom v)
+  page-text e w h = rw e (w, h)
+
+module _ {v : Bool} (c : ℕ) {a b : List ℕ} {i j : ℕ} where
+  pub foot-svg : v ≡ true → (t : Sums) → Appends a b i j (svgFoot c t) → j ≤ i + 1024
+      → (Appends a b i j (footOf v c t)) × (j ≤ i + footRoom v)
+  foot-svg e t w h = rw e (w, h)
+
+  pub foot-text : v ≡ false → (t : Sums) → Appends a b i j (textFoot t) → j ≤ i + 256
+      → (Appends a b i j (footOf v c t)) × (j ≤ i + footRoom v)
+  foot-text e t w h = rw e (w, h)
+
+pub head-svg : {v : Bool} (c : ℕ) {a b : List ℕ} {i : ℕ} → v ≡ true → Appends a b 0 i (svgHead c) → i ≤ 1024
+    → (Appends a b 0 i (headOf v c)) × (i ≤ headRoom v)
+head-svg c e w h = rw e (w, h)
+
+pub head-text : {v : Bool} (c : ℕ) {a : List ℕ} → v ≡ false → (Appends a a 0 0 (headOf v c)) × (0 ≤ headRoom v)
+head-text c e = rw e (appends-none, omega arith)
+
+-- ---- the pages one after the other
+
+pages-none : (v : Bool) (p : Pool) (last : Cell) (g n : ℕ) → n ≡ 0 → pagesFrom v p last g n ≡ []
+unfolding pagesFrom
+pages-none v p last g n e = rw e
+
+pages-step : (v : Bool) (p : Pool) (last s : Cell) (g h n m : ℕ) → s ≡ cellAt p last g → h ≡ suc g → n ≡ suc m
+    → pagesFrom v p last g n ≡ pageOf v g s ++ pagesFrom v p s h m
+unfolding pagesFrom
+pages-step v p last s g h n m e f k = rw (e, f, k)
+
+-- some text was written, and with the pages from g on it is that of all pages; there is room for them
+pub record Drawing (v : Bool) (c : ℕ) (p : Pool) (out₀ : List ℕ) (at : ℕ) (out : List ℕ) (last : Cell) (i g : ℕ) : Type 0 where
+  pub text : List ℕ
+  pub wrote : Appends out₀ out at i text
+  pub rest : text ++ pagesFrom v p last g (512 * c - g) ≡ pagesFrom v p noCell 0 (512 * c)
+  pub room : i + pageRoom v * (512 * c - g) ≤ at + pageRoom v * (512 * c)
+  pub level : last .level ≤ 10
+
+module _ {v : Bool} {c : ℕ} {p : Pool} {out₀ : List ℕ} {at : ℕ} where
+  pub drawing-first : Drawing v c p out₀ at out₀ noCell at 0
+  drawing-first =
+      let z : 512 * c - 0 ≡ 512 * c = omega arith in
+      record { text = []; wrote = appends-none; rest = rw z; room = rw z (omega arith); level = omega arith }
+
+  module _ {out : List ℕ} {last : Cell} {i g : ℕ} (d : Drawing v c p out₀ at out last i g) where
+    pub drawing-kept : length out ≡ length out₀
+    drawing-kept = appends-length (d .wrote)
+
+    pub drawing-done : 512 * c ≤ g → (Appends out₀ out at i (pagesFrom v p noCell 0 (512 * c))) × (i ≤ at + pageRoom v * (512 * c))
+    drawing-done l =
+        let e : d .text ≡ pagesFrom v p noCell 0 (512 * c) =
+        sym (append-nil (d .text))
+        ∙ ap (λ (t : List ℕ). d .text ++ t) (sym (pages-none v p last g (512 * c - g) (omega arith))) ∙ d .rest in
+        (rw (← e) (d .wrote), omega (arith, d .room))
+
+    module _ (l : g < 512 * c) where
+      room-step : pageRoom v * (512 * c - g) ≡ pageRoom v * (512 * c - (g + 1)) + pageRoom v
+      room-step = let e : 512 * c - g ≡ suc (512 * c - (g + 1)) = omega arith in rw e (mul-suc (pageRoom v) (512 * c - (g + 1)))
+
+      pub drawing-room : at + pageRoom v * (512 * c) ≤ length out₀ → i + pageRoom v ≤ length out
+      drawing-room h = omega (arith, d .room, room-step, drawing-kept)
+
+      pub drawing-next : {s : Cell} {k j : ℕ} {out′ : List ℕ} → Shows p last g s → k ≡ g → Appends out out′ i j (pageOf v k s)
+          → j ≤ i + pageRoom v → Drawing v c p out₀ at out′ s j (g + 1)
+      drawing-next {s} {k} {j} {out′} (e, u, x) f w h =
+          record {
+            text = d .text ++ pageOf v g s;
+            wrote = appends-more (d .wrote) (rw (← f) w);
+            rest = append-assoc (d .text) (pageOf v g s) (pagesFrom v p s (g + 1) (512 * c - (g + 1)))
+                ∙ ap (λ (t : List ℕ). d .text ++ t)
+                (sym (pages-step v p last s g (g + 1) (512 * c - g) (512 * c - (g + 1)) e (omega arith) (omega arith)))
+                ∙ d .rest;
+            room = omega (arith, d .room, room-step);
+            level = x;
+          }
+
+-- ---- the whole drawing
+
+pub room-whole : (v : Bool) (c : ℕ) {n : ℕ} → roomFor v c ≤ n → headRoom v + (pageRoom v * (512 * c) + footRoom v) ≤ n
+unfolding roomFor
+room-whole v c h = h
+
+module _ (v : Bool) (c : ℕ) (p : Pool) {o a b d : List ℕ} {i j k : ℕ} (x : Appends o a 0 i (headOf v c))
+    (y : Appends a b i j (pagesFrom v p noCell 0 (512 * c))) where
+  pub draw-made : {t : Sums} {n : ℕ} → t ≡ tallied c p → Appends b d j k (footOf v c t) → n ≡ k → shown (drawnAs 0 n) d ≡ showing v c p o
+  unfolding showing drawing
+  draw-made {t} {n} e z f =
+      let w : Appends o d 0 k (headOf v c ++ (pagesFrom v p noCell 0 (512 * c) ++ footOf v c (tallied c p))) =
+      appends-more x (appends-more y (rw (← e) z)) in
+      let l : n ≡ length (headOf v c ++ (pagesFrom v p noCell 0 (512 * c) ++ footOf v c (tallied c p))) = omega (arith, f, w .next) in
+      rw (← l, ← w .text)
+
+-- ---- the call
+
+pub room-svg : {v : Bool} (c : ℕ) → v ≡ true → 1024 + (420 * (512 * c) + 1024) ≡ roomFor v c
+unfolding roomFor
+room-svg c e = rw e
+
+pub room-text : {v : Bool} (c : ℕ) → v ≡ false → 29 * (512 * c) + 256 ≡ roomFor v c
+unfolding roomFor
+room-text c e = rw e (omega arith)
+
+module _ (v : Bool) (c : ℕ) (p : Pool) (out : List ℕ) {n : ℕ} (e : n ≡ admitOf c p) where
+  pub draw-refused : n ≢ 0 → shown (drawnAs n 0) out ≡ drawnOf v c p out
+  unfolding drawnOf
+  draw-refused z = refused (admitOf c p) n (λ r. shown (drawnAs r 0) out) _ e z
+
+  module _ (z : n ≡ 0) where
+    pub draw-short : length out < roomFor v c → shown (drawnAs 7 0) out ≡ drawnOf v c p out
+    unfolding drawnOf
+    draw-short h =
+        sym (cond-lt (length out) (roomFor v c) (shown (drawnAs 7 0) out) (showing v c p out) h)
+        ∙ served (admitOf c p) n (λ r. shown (drawnAs r 0) out) _ e z
+
+    pub draw-whole : roomFor v c ≤ length out → {s : Shown} → s ≡ showing v c p out → s ≡ drawnOf v c p out
+    unfolding drawnOf
+    draw-whole h k =
+        k ∙ sym (cond-nlt (length out) (roomFor v c) (shown (drawnAs 7 0) out) (showing v c p out) h)
+        ∙ served (admitOf c p) n (λ r. shown (drawnAs r 0) out) _ e z
+
+-- what `&out[..n]` asks
+pub counted : (n : ℕ) (l : List ℕ) → n ≤ length l → (n ≤ length l) × (n ≡ length (take n l))
+counted n l h = (h, sym (length-take-le n l h))
