@@ -5,9 +5,11 @@
  * 4,096. The library keeps only the records that say which pages and slots
  * are taken; it never reads or writes the bytes of a block.
  *
- * Who owns what. The caller owns all buffers and lends them for the length of
- * one call. The library keeps nothing between calls, allocates nothing and has
- * no state of its own.
+ * Who owns what. The caller owns all buffers, those of the records, the room
+ * for a census, a request log and the room for its lines, and lends them for
+ * the length of one call. The arenas, where the bytes of the blocks lie, are
+ * the caller's alone: only their lengths are told. The library keeps nothing
+ * between calls, allocates nothing and has no state of its own.
  *
  * The three buffers of a pool, each with one part a chunk, lengths counted in
  * elements:
@@ -20,13 +22,14 @@
  *
  *   - each pointer is aligned for its type and valid for its count of
  *     elements: for reading, and for writing too where it is not const;
- *   - the three buffers do not overlap, nor does the room lent to a census
- *     overlap any of them;
+ *   - the three buffers do not overlap, nor does the room lent to a census or
+ *     to lines, or a log, overlap any of them or each other;
  *   - nobody else writes to them while the call runs;
  *   - an empty buffer's pointer need only be non-null and aligned.
  *
  * All else may be anything: any number, any length, any contents. Each call
- * ends and answers, and a refused call changes nothing.
+ * ends and answers, and a refused call changes nothing; only a log that is
+ * refused at one of its fields has done what the fields before it say.
  */
 #ifndef LENSEMBER_H
 #define LENSEMBER_H
@@ -47,18 +50,27 @@
 
 /* Answers. */
 #define LENSEMBER_OK 0         /* served */
-#define LENSEMBER_SHAPE 1      /* c not 1 to 16, or a buffer not of the exact length */
+#define LENSEMBER_SHAPE 1      /* c not 1 to 16, a length not the exact one, or no such ear */
 #define LENSEMBER_DAMAGED 2    /* the records are not those of any pool */
 #define LENSEMBER_TOO_BIG 3    /* more than 2,093,056 bytes are asked for */
 #define LENSEMBER_NO_ROOM 4    /* no free slot of the class and no long enough gap */
 #define LENSEMBER_NO_BLOCK 5   /* no block or slot starts at that place */
 #define LENSEMBER_FREE_SLOT 6  /* a slot starts there and is free */
-#define LENSEMBER_SHORT_ROOM 7 /* a census was lent less than two words a live block */
+#define LENSEMBER_SHORT_ROOM 7 /* less room was lent than a census or lines needs */
+#define LENSEMBER_CUT_LOG 8    /* a log ends inside a field or before its end field */
+#define LENSEMBER_BAD_FIELD 9  /* a log field is unknown, of wrong length or out of its turn */
 
 /* What a reserved block is. */
 #define LENSEMBER_NOTHING 0 /* refused: there is no block */
 #define LENSEMBER_SLOT 1    /* a slot of a size class, for 0 to 3,072 bytes */
 #define LENSEMBER_RUN 2     /* a run of pages, for 3,073 to 2,093,056 bytes */
+
+/* Ears. Each has a pool and an arena of its own. */
+#define LENSEMBER_LEFT 0
+#define LENSEMBER_RIGHT 1
+
+/* Bytes of room that are enough for the lines of any log of n bytes. */
+#define LENSEMBER_LINES_ROOM(n) (12 * (size_t)(n) + 60)
 
 #ifdef __cplusplus
 extern "C" {
@@ -263,6 +275,136 @@ struct lensember_summed lensember_totals(uint64_t c,
                                          const uint64_t *bits, size_t nbits,
                                          const uint32_t *words, size_t nwords,
                                          const uint64_t *slots, size_t nslots);
+
+/*
+ * The answer to bytes: a part of the chosen arena. On a refusal it is empty, and
+ * both of its numbers are 0; a part that is served has at least one byte.
+ */
+struct lensember_part {
+    uint64_t refusal; /* LENSEMBER_OK, or the number of the refusal */
+    uint64_t start;   /* the part's first byte, counted from the arena's */
+    uint64_t size;    /* how many bytes it has: those that the block was given */
+};
+
+/*
+ * Which part of an arena is the block that starts at `place`? Each ear has a
+ * pool and an arena, c * LENSEMBER_CHUNK_BYTES bytes that are the caller's. The
+ * call is told the ear, lent the records of that ear's pool, and told how many
+ * bytes both arenas have; the other arena's length may be anything. Any number
+ * may be given as an ear or a place. Reads only, and only the records.
+ *
+ * The part lies wholly inside the chosen arena: the caller reads and writes the
+ * bytes from arena[start] on, `size` of them. Parts of two live blocks share no
+ * byte.
+ *
+ *   LENSEMBER_OK         a live block starts there, and this is its part
+ *   LENSEMBER_SHAPE      ear is above 1, the chosen arena is not of
+ *                        c * LENSEMBER_CHUNK_BYTES bytes, c is not 1 to 16, or a
+ *                        record buffer is not of the exact length
+ *   LENSEMBER_DAMAGED    the lengths are right and the contents are damaged
+ *   LENSEMBER_NO_BLOCK   no block or slot starts there, as for release
+ *   LENSEMBER_FREE_SLOT  a slot starts there and is free
+ *
+ * The refusals are checked in this order.
+ */
+struct lensember_part lensember_bytes(uint64_t ear, uint64_t c,
+                                      const uint64_t *bits, size_t nbits,
+                                      const uint32_t *words, size_t nwords,
+                                      const uint64_t *slots, size_t nslots,
+                                      uint64_t place,
+                                      size_t nleft, size_t nright);
+
+/*
+ * The answer to a replay. The position is that of the offended field's first
+ * byte, or the log's length when nothing is left of it; it is 0 for an accepted
+ * log and for LENSEMBER_SHAPE.
+ */
+struct lensember_replayed {
+    uint64_t refusal;  /* LENSEMBER_OK, or the number of the refusal */
+    uint64_t position; /* where in the log it was refused */
+};
+
+/*
+ * Replays a request log of nlog bytes: does what its fields say, one after the
+ * other, on the lent records.
+ *
+ * A field is one byte tag, two bytes length and the body; numbers have the high
+ * byte first.
+ *
+ *   tag 1  start    length 1  chunk count, 1 to 16
+ *   tag 2  reserve  length 4  size
+ *   tag 3  release  length 4  place
+ *   tag 4  end      length 0
+ *
+ * Start comes first and once, end comes last. A start makes a fresh pool, so the
+ * records may hold anything before it; its count must be c. A reserve or release
+ * that is refused does not end the replay. The log is only read.
+ *
+ *   LENSEMBER_OK         the whole log was replayed
+ *   LENSEMBER_SHAPE      c is not 1 to 16, or a record buffer is not of the exact
+ *                        length; nothing is changed
+ *   LENSEMBER_CUT_LOG    the log ends inside a field, or without an end field
+ *   LENSEMBER_BAD_FIELD  a field with another tag or length, or out of its turn; a
+ *                        start with a count other than c; a byte after the end
+ *
+ * The last two leave the records as the fields before the position left them:
+ * unchanged where no start was accepted, else those of a sound pool. No replay
+ * answers LENSEMBER_DAMAGED.
+ */
+struct lensember_replayed lensember_replay(uint64_t c,
+                                           uint64_t *bits, size_t nbits,
+                                           uint32_t *words, size_t nwords,
+                                           uint64_t *slots, size_t nslots,
+                                           const uint8_t *log, size_t nlog);
+
+/*
+ * The answer to lines: that of the replay, and the length of the text. Where
+ * LENSEMBER_SHAPE or LENSEMBER_SHORT_ROOM is answered, there is no text, and both
+ * other numbers are 0.
+ */
+struct lensember_printed {
+    uint64_t refusal;  /* LENSEMBER_OK, or the number of the refusal */
+    uint64_t position; /* where in the log it was refused, as for replay */
+    uint64_t length;   /* bytes of text, from out[0] on */
+};
+
+/*
+ * Replays a request log, as lensember_replay does, and writes what happened as
+ * text: one line for each field that it did, but none for the end, and a last
+ * line with the totals or with the log's refusal. Each line ends in one newline;
+ * no zero byte is put behind the last one.
+ *
+ *   pool 1
+ *   reserve 24 at 4096 size 24
+ *   reserve 3000000 refused 3
+ *   release 4096 ok
+ *   release 4100 refused 5
+ *   live 0 free pages 510
+ *
+ * Without its end field that log is cut at byte 32, and the last line reads
+ * `log refused 8 at 32`.
+ *
+ * The text starts at out[0]; the bytes of the room behind it are unchanged. The
+ * room has nout bytes, and is the caller's before and after the call.
+ * LENSEMBER_LINES_ROOM(nlog) of them are enough for any log of nlog bytes, and
+ * fewer are refused, however short the text would be. The log is only read.
+ *
+ *   LENSEMBER_OK          the whole log was replayed, and the text says so
+ *   LENSEMBER_SHAPE       c is not 1 to 16, or a record buffer is not of the exact
+ *                         length; nothing is changed
+ *   LENSEMBER_SHORT_ROOM  nout is less than LENSEMBER_LINES_ROOM(nlog); nothing is
+ *                         changed
+ *   LENSEMBER_CUT_LOG     as for replay; the text says where
+ *   LENSEMBER_BAD_FIELD   as for replay; the text says where
+ *
+ * The refusals are checked in this order, the last two field by field.
+ */
+struct lensember_printed lensember_lines(uint64_t c,
+                                         uint64_t *bits, size_t nbits,
+                                         uint32_t *words, size_t nwords,
+                                         uint64_t *slots, size_t nslots,
+                                         const uint8_t *log, size_t nlog,
+                                         uint8_t *out, size_t nout);
 
 #ifdef __cplusplus
 }

@@ -7,6 +7,9 @@ ghost use Rattle.release.specs.Release.{releaseOf, sizeOf};
 ghost use Rattle.next.specs.Next.{nextOf};
 ghost use Rattle.census.specs.Census.{listed, censusOf};
 ghost use Rattle.totals.specs.Totals.{totalsOf};
+ghost use Rattle.bytes.specs.Bytes.{partOf};
+ghost use Rattle.replay.specs.Run.{replayOf};
+ghost use Rattle.lines.specs.Lines.{told, printedOf};
 ghost use Rattle.lensember.specs.Flat.{flatReserved, reservedOf};
 
 // struct lensember_reserved: kind is 0 for nothing, 1 for a slot, 2 for a page run; what does not apply is 0.
@@ -169,4 +172,50 @@ pub extern "C" fn lensember_totals(
     ensures { λ r. ⌜ r ≡ totalsOf c (pool (now (bits .entry)) (now (words .entry)) (now (slots .entry))) ⌝ }
 {
     totals::totals(c, bits, words, slots)
+}
+
+// Document 01's bytes, by the lengths of both arenas: where the part lies in the chosen one. A slice cannot be handed back to C.
+#[no_mangle]
+pub extern "C" fn lensember_bytes(
+    ear: u64,
+    c: u64,
+    bits: &[u64],
+    words: &[u32],
+    slots: &[u64],
+    place: u64,
+    nleft: usize,
+    nright: usize,
+) -> bytes::Part
+    ensures { λ r. ⌜ r ≡ partOf ear c (pool (now (bits .entry)) (now (words .entry)) (now (slots .entry))) place nleft nright ⌝ }
+{
+    bytes::part_of(ear, c, bits, words, slots, place, nleft, nright)
+}
+
+// Document 01's replay of a request log.
+#[no_mangle]
+pub extern "C" fn lensember_replay(
+    c: u64,
+    bits: &mut [u64],
+    words: &mut [u32],
+    slots: &mut [u64],
+    log: &[u8],
+) -> replay::Replayed
+    ensures { λ r. ⌜ leaves r (pool (now (bits .exit)) (now (words .exit)) (now (slots .exit))) ≡ replayOf c (pool (now (bits .entry)) (now (words .entry)) (now (slots .entry))) (now (log .entry)) ⌝ }
+{
+    replay::replay(c, bits, words, slots, log)
+}
+
+// The same, with the lines that document 01's program writes.
+#[no_mangle]
+pub extern "C" fn lensember_lines(
+    c: u64,
+    bits: &mut [u64],
+    words: &mut [u32],
+    slots: &mut [u64],
+    log: &[u8],
+    out: &mut [u8],
+) -> lines::Printed
+    ensures { λ r. ⌜ told r (pool (now (bits .exit)) (now (words .exit)) (now (slots .exit))) (now (out .exit)) ≡ printedOf c (pool (now (bits .entry)) (now (words .entry)) (now (slots .entry))) (now (log .entry)) (now (out .entry)) ⌝ }
+{
+    lines::lines(c, bits, words, slots, log, out)
 }
