@@ -1,15 +1,34 @@
 # The archive for C programs, and what is run against it.
 #
-#   make all        proves the library and puts build/liblensember.a together
-#   make test       the one test command: proofs, then the host tests
-#   make host-test  the host tests alone: damage, then series
-#   make bench      the record check, then the other calls, against a plain OR
-#                   over the same records; GATE=1.5 makes it fail when the check
-#                   is above that ratio
-#   make run        builds and runs examples/first.c
-#   make clean      removes build/
+#   make all           proves the library and the replay program, and puts
+#                      build/liblensember.a and build/replay together
+#   make test          the one test command: proofs, then the host tests
+#   make host-test     the host tests alone: damage, series, replays, seeds,
+#                      program, install
+#   make program-test  of these program alone, which runs the replay program
+#   make long-test     random series only, COUNT calls of them (20,000,000), from
+#                      another SEED each time
+#   make php-test      the library beside PHP's own allocator; installs Debian's
+#                      libphp8.2-embed
+#   make fuzz          libFuzzer over all calls for FUZZ_SECONDS (300), from the
+#                      seeds in fuzz/; installs Debian's clang. What it finds is
+#                      put into build/, and build/seeds FILE runs it again
+#   make install       header, archive, pkg-config file, program and man pages,
+#                      below PREFIX (/usr/local); DESTDIR is put before it
+#   make uninstall     removes what install put there
+#   make bench         the record check, then the other calls, against a plain OR
+#                      over the same records; GATE=1.5 makes it fail when the
+#                      check is above that ratio; then replays, against a plain
+#                      pool, malloc, and PHP's allocator where it is installed
+#   make run           replays examples/sample.log, document 01's sample
+#   make map           replays examples/map.log and draws the pool after it
+#   make picture       the same as an SVG picture, build/pagemap.svg
+#   make first         builds and runs examples/first.c
+#   make editor        builds and runs examples/editor.c
+#   make clean         removes build/
 #
-# LIB=FILE on the command line tests another archive.
+# LIB=FILE on the command line takes another archive, PROGRAM=FILE another
+# replay program.
 
 # CC ?= gcc would not do: make has a CC of its own from the start.
 ifeq ($(origin CC),default)
@@ -17,21 +36,45 @@ CC = gcc
 endif
 CFLAGS ?= -O2 -Wall -Wextra -Werror
 LIB ?= build/liblensember.a
+PROGRAM ?= build/replay
+PREFIX ?= /usr/local
+DESTDIR ?=
+VERSION = 1.0
 
 # What the sources need, whatever CFLAGS says.
 override CFLAGS += -std=c99 -pedantic
 INCLUDES = -Iinclude -Itests -Ibench
 HEADERS = $(wildcard include/*.h tests/*.h bench/*.h)
 
+# The crate of the replay program.
+PROGRAM_CRATE = replayer
+
 # The library is proved again when any source or proof of it has changed.
 PROVED = crates.txt $(shell find crates -name '*.rt' -o -name '*.antt')
 
-all: $(LIB)
+all: $(LIB) $(PROGRAM)
 
 build/liblensember.a: $(PROVED)
 	rt staticlib lensember
 	@mkdir -p $(@D)
 	cp target/staticlib/liblensember.a $@
+
+# After the archive, not beside it: rt runs once at a time.
+build/replay: $(PROVED) | $(LIB)
+	rt check $(PROGRAM_CRATE)
+	@mkdir -p $(@D)
+	cp target/bin/$(PROGRAM_CRATE) $@
+
+# The programs that draw: the crate's name, and the file's.
+build/map: $(PROVED) | $(LIB)
+	rt check mapper
+	@mkdir -p $(@D)
+	cp target/bin/mapper $@
+
+build/paint: $(PROVED) | $(LIB)
+	rt check painter
+	@mkdir -p $(@D)
+	cp target/bin/painter $@
 
 build/%.o: %.c $(HEADERS) Makefile
 	@mkdir -p $(@D)
@@ -43,9 +86,27 @@ build/bench/or.o: bench/or.c $(HEADERS) Makefile
 	@mkdir -p $(@D)
 	$(CC) $(CFLAGS) -O3 -falign-functions=64 -falign-loops=64 $(INCLUDES) -c $< -o $@
 
+build/bench/plain.o: bench/plain.c $(HEADERS) Makefile
+	@mkdir -p $(@D)
+	$(CC) $(CFLAGS) -O3 $(INCLUDES) -c $< -o $@
+
+# PHP's allocator is measured too where its library is installed (./setup php).
+PHP_LIB := $(wildcard /usr/lib/libphp8.2.so)
+
+build/bench/others.o: bench/others.c $(HEADERS) Makefile
+	@mkdir -p $(@D)
+	$(CC) $(CFLAGS) $(if $(PHP_LIB),-DWITH_PHP) $(INCLUDES) -c $< -o $@
+
 SHARED = groups calls trials shapes cases lent model
 DAMAGE_OBJECTS = $(patsubst %,build/tests/%.o,damage $(SHARED))
 SERIES_OBJECTS = $(patsubst %,build/tests/%.o,series readers twin draws pool book $(SHARED))
+REPLAYS_OBJECTS = $(patsubst %,build/tests/%.o,replays parts stage logs known drafts \
+	twin draws pool book $(SHARED))
+FUZZED = readers logs twin draws pool book $(SHARED)
+FUZZ_SOURCES = fuzz/boundary.c $(patsubst %,tests/%.c,$(FUZZED))
+SEEDS_OBJECTS = build/fuzz/once.o build/fuzz/boundary.o $(patsubst %,build/tests/%.o,$(FUZZED))
+PROGRAM_OBJECTS = $(patsubst %,build/tests/%.o,program logs known drafts draws pool book groups model)
+PHP_OBJECTS = $(patsubst %,build/tests/%.o,php draws groups calls lent model pool book)
 BENCH_SHARED = build/bench/timing.o build/bench/or.o build/tests/model.o
 
 # Linked anew each time: LIB may have been another archive before.
@@ -55,31 +116,113 @@ build/damage: $(DAMAGE_OBJECTS) $(LIB)
 build/series: $(SERIES_OBJECTS) $(LIB)
 	$(CC) $(CFLAGS) $(SERIES_OBJECTS) $(LIB) -o $@
 
+build/replays: $(REPLAYS_OBJECTS) $(LIB)
+	$(CC) $(CFLAGS) $(REPLAYS_OBJECTS) $(LIB) -o $@
+
+build/program: $(PROGRAM_OBJECTS)
+	$(CC) $(CFLAGS) $(PROGRAM_OBJECTS) -o $@
+
+build/seeds: $(SEEDS_OBJECTS) $(LIB)
+	$(CC) $(CFLAGS) $(SEEDS_OBJECTS) $(LIB) -o $@
+
+build/boundary: $(FUZZ_SOURCES) $(HEADERS) $(LIB)
+	./setup fuzz
+	@mkdir -p $(@D)
+	clang -std=c99 -g -O1 -fsanitize=fuzzer,address $(INCLUDES) $(FUZZ_SOURCES) $(LIB) -o $@
+
+build/php: $(PHP_OBJECTS) $(LIB)
+	./setup php
+	$(CC) $(CFLAGS) $(PHP_OBJECTS) $(LIB) -l:libphp8.2.so -o $@
+
 build/check: build/bench/check.o $(BENCH_SHARED) $(LIB)
 	$(CC) $(CFLAGS) build/bench/check.o $(BENCH_SHARED) $(LIB) -o $@
 
 build/calls: build/bench/calls.o $(BENCH_SHARED) $(LIB)
 	$(CC) $(CFLAGS) build/bench/calls.o $(BENCH_SHARED) $(LIB) -o $@
 
+build/replaying: build/bench/replay.o build/bench/plain.o build/bench/others.o $(LIB)
+	$(CC) $(CFLAGS) $(filter %.o,$^) $(LIB) $(PHP_LIB) -o $@
+
 build/first: build/examples/first.o $(LIB)
 	$(CC) $(CFLAGS) build/examples/first.o $(LIB) -o $@
+
+build/editor: build/examples/editor.o $(LIB)
+	$(CC) $(CFLAGS) build/examples/editor.o $(LIB) -o $@
 
 test:
 	./test
 
-host-test: build/damage build/series
+host-test: build/damage build/series build/replays build/seeds build/program all
 	build/damage
 	build/series
+	build/replays
+	build/seeds fuzz/seeds/*
+	build/program $(PROGRAM)
+	cmp docs/pagemap.svg crates/painter/stdout
+	CC='$(CC)' LIB='$(LIB)' PROGRAM='$(PROGRAM)' tests/install.sh
 
-bench: build/check build/calls
+program-test: build/program $(PROGRAM)
+	build/program $(PROGRAM)
+
+COUNT ?= 20000000
+SEED ?= $(shell date +%s)
+
+long-test: build/series
+	build/series $(SEED) $(COUNT)
+
+php-test: build/php
+	build/php
+
+FUZZ_SECONDS ?= 300
+
+fuzz: build/boundary
+	@mkdir -p build/corpus
+	build/boundary -max_total_time=$(FUZZ_SECONDS) -max_len=4096 -dict=fuzz/words.dict \
+		-artifact_prefix=build/ build/corpus fuzz/seeds
+
+bench: build/check build/calls build/replaying
 	build/check $(if $(GATE),--gate $(GATE))
 	build/calls
+	build/replaying
 
-run: build/first
+run: $(PROGRAM)
+	$(PROGRAM) <examples/sample.log
+
+map: build/map
+	build/map <examples/map.log
+
+picture: build/paint
+	build/paint <examples/map.log >build/pagemap.svg
+
+first: build/first
 	build/first
+
+editor: build/editor
+	build/editor
+
+# What is installed, below PREFIX.
+INSTALLED = include/lensember.h lib/liblensember.a lib/pkgconfig/lensember.pc \
+	bin/lensember-replay share/man/man1/lensember-replay.1 share/man/man3/lensember.3
+ROOT = $(DESTDIR)$(PREFIX)
+
+install: all
+	install -d $(addprefix '$(ROOT)'/,$(sort $(dir $(INSTALLED))))
+	install -m 644 include/lensember.h '$(ROOT)'/include/
+	install -m 644 $(LIB) '$(ROOT)'/lib/liblensember.a
+	sed 's|@PREFIX@|$(PREFIX)|; s|@VERSION@|$(VERSION)|' lensember.pc.in \
+		>'$(ROOT)'/lib/pkgconfig/lensember.pc
+	chmod 644 '$(ROOT)'/lib/pkgconfig/lensember.pc
+	install -m 755 $(PROGRAM) '$(ROOT)'/bin/lensember-replay
+	install -m 644 man/lensember-replay.1 '$(ROOT)'/share/man/man1/
+	install -m 644 man/lensember.3 '$(ROOT)'/share/man/man3/
+
+uninstall:
+	rm -f $(addprefix '$(ROOT)'/,$(INSTALLED))
 
 clean:
 	rm -rf build
 
-.PHONY: all test host-test bench run clean
-.PHONY: build/damage build/series build/check build/calls build/first
+.PHONY: all test host-test program-test long-test php-test fuzz bench run map picture first editor
+.PHONY: install uninstall clean
+.PHONY: build/damage build/series build/replays build/seeds build/boundary build/php
+.PHONY: build/check build/calls build/replaying build/first build/editor

@@ -43,3 +43,20 @@ struct lensember_summed library_totals(const struct records *r)
 {
     return lensember_totals(r->c, LENT(r));
 }
+
+struct lensember_replayed library_replay(const struct records *r, const uint8_t *log, size_t nlog)
+{
+    return lensember_replay(r->c, LENT(r), log, nlog);
+}
+
+struct lensember_printed library_lines(const struct records *r, const uint8_t *log, size_t nlog,
+                                       uint8_t *out, size_t nout)
+{
+    return lensember_lines(r->c, LENT(r), log, nlog, out, nout);
+}
+
+struct lensember_part library_bytes(uint64_t ear, const struct records *r, uint64_t place,
+                                    size_t nleft, size_t nright)
+{
+    return lensember_bytes(ear, r->c, LENT(r), place, nleft, nright);
+}

@@ -13,5 +13,10 @@ struct lensember_sized library_block_size(const struct records *r, uint64_t plac
 struct lensember_found library_next(const struct records *r, uint64_t place);
 struct lensember_counted library_census(const struct records *r, uint64_t *room, size_t nroom);
 struct lensember_summed library_totals(const struct records *r);
+struct lensember_replayed library_replay(const struct records *r, const uint8_t *log, size_t nlog);
+struct lensember_printed library_lines(const struct records *r, const uint8_t *log, size_t nlog,
+                                       uint8_t *out, size_t nout);
+struct lensember_part library_bytes(uint64_t ear, const struct records *r, uint64_t place,
+                                    size_t nleft, size_t nright);
 
 #endif

@@ -92,7 +92,9 @@ static void test_numbers(void)
     expect(LENSEMBER_OK == 0 && LENSEMBER_SHAPE == 1 && LENSEMBER_DAMAGED == 2, "answers");
     expect(LENSEMBER_TOO_BIG == 3 && LENSEMBER_NO_ROOM == 4, "answers of reserve");
     expect(LENSEMBER_NO_BLOCK == 5 && LENSEMBER_FREE_SLOT == 6, "answers of release");
-    expect(LENSEMBER_SHORT_ROOM == 7, "answer of census");
+    expect(LENSEMBER_SHORT_ROOM == 7, "answer of census and lines");
+    expect(LENSEMBER_CUT_LOG == 8 && LENSEMBER_BAD_FIELD == 9, "answers of replay");
+    expect(LENSEMBER_LINES_ROOM(2) == 84, "room of lines");
     expect(LENSEMBER_NOTHING == 0 && LENSEMBER_SLOT == 1 && LENSEMBER_RUN == 2, "kinds");
     for (unsigned b = 0; b < CLASSES; b++) {
         const struct size_class *row = &size_classes[b];
@@ -487,30 +489,6 @@ static void expect_shape_refused(uint64_t c, struct lengths n)
     shelf = shelf_before;
 }
 
-static void test_bad_counts(void)
-{
-    group_begin("refused-1", "chunk-count-sound-records");
-    shelf_fill_sound();
-    try_bad_counts(expect_shape_refused);
-    group_end();
-    group_begin("refused-1", "chunk-count-damaged-records");
-    shelf_fill_random();
-    try_bad_counts(expect_shape_refused);
-    group_end();
-}
-
-static void test_bad_lengths(void)
-{
-    group_begin("refused-1", "length-sound-records");
-    shelf_fill_sound();
-    try_bad_lengths(expect_shape_refused);
-    group_end();
-    group_begin("refused-1", "length-damaged-records");
-    shelf_fill_random();
-    try_bad_lengths(expect_shape_refused);
-    group_end();
-}
-
 /* An empty buffer's pointer need only be non-null and aligned. */
 static void test_empty_buffers(void)
 {
@@ -614,8 +592,8 @@ int main(int argc, char **argv)
     test_named_damage();
     test_flips();
     test_random_damage();
-    test_bad_counts();
-    test_bad_lengths();
+    try_bad_shapes("sound-records", shelf_fill_sound, expect_shape_refused);
+    try_bad_shapes("damaged-records", shelf_fill_random, expect_shape_refused);
     test_empty_buffers();
     test_fresh();
     return program_end("damage");

@@ -68,6 +68,40 @@ uint64_t draw_hostile_size(void)
     return sizes[below(COUNT(sizes))];
 }
 
+uint64_t draw_mostly_small(unsigned b)
+{
+    (void)b;
+    return rng_below(&rng, 64) ? draw_small_size() : draw_hostile_size();
+}
+
+uint64_t draw_any_size(unsigned b)
+{
+    switch (rng_below(&rng, 8)) {
+    case 0:
+        return draw_hostile_size();
+    case 1:
+        return draw_large_size(511);
+    case 2:
+    case 3:
+        return draw_large_size(40);
+    default:
+        return draw_mostly_small(b);
+    }
+}
+
+uint64_t draw_large_only(unsigned b)
+{
+    static const unsigned most[] = {3, 10, 70, 140, 511};
+
+    (void)b;
+    return draw_large_size(most[rng_below(&rng, COUNT(most))]);
+}
+
+uint64_t draw_mostly_class(unsigned b)
+{
+    return rng_below(&rng, 64) ? draw_size_of_class(b) : draw_any_size(b);
+}
+
 /* ---- Places ------------------------------------------------------------------ */
 
 /* A run of the pool and where it starts. */

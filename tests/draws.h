@@ -9,6 +9,12 @@ uint64_t draw_size_of_class(unsigned class_number);
 uint64_t draw_large_size(unsigned most_pages);     /* 3,073 to 2,093,056 at most */
 uint64_t draw_hostile_size(void);                  /* around each limit, or any number */
 
+/* Sizes for a series: mostly small ones, any, large ones, mostly those of class b. */
+uint64_t draw_mostly_small(unsigned b);
+uint64_t draw_any_size(unsigned b);
+uint64_t draw_large_only(unsigned b);
+uint64_t draw_mostly_class(unsigned b);
+
 /* The place of a live block; page 0 where none is found. */
 uint64_t draw_live_place(const struct pool *pool);
 

@@ -19,24 +19,30 @@ static size_t whole_pages(size_t bytes)
     return (bytes + system_page() - 1) / system_page() * system_page();
 }
 
+static void need(bool there)
+{
+    if (there)
+        return;
+    perror("buffers for the tests");
+    exit(2);
+}
+
 static void *guarded_new(size_t bytes)
 {
-    size_t usable = whole_pages(bytes);
-    char *start = mmap(NULL, usable + system_page(), PROT_READ | PROT_WRITE,
-                       MAP_PRIVATE | MAP_ANONYMOUS, -1, 0);
+    size_t usable = whole_pages(bytes), guard = system_page();
+    char *before = mmap(NULL, guard + usable + guard, PROT_NONE,
+                        MAP_PRIVATE | MAP_ANONYMOUS, -1, 0);
 
-    if (start == MAP_FAILED || mprotect(start + usable, system_page(), PROT_NONE) != 0) {
-        perror("buffers for the tests");
-        exit(2);
-    }
-    return start + usable - bytes;
+    need(before != MAP_FAILED);
+    need(usable == 0 || mprotect(before + guard, usable, PROT_READ | PROT_WRITE) == 0);
+    return before + guard + usable - bytes;
 }
 
 static void guarded_free(void *buffer, size_t bytes)
 {
-    size_t usable = whole_pages(bytes);
+    size_t usable = whole_pages(bytes), guard = system_page();
 
-    munmap((char *)buffer + bytes - usable, usable + system_page());
+    munmap((char *)buffer + bytes - usable - guard, guard + usable + guard);
 }
 
 static size_t bits_bytes(size_t c)
@@ -80,6 +86,31 @@ uint64_t *lent_room_new(size_t words)
 void lent_room_free(uint64_t *room, size_t words)
 {
     guarded_free(room, words * sizeof(uint64_t));
+}
+
+uint8_t *lent_bytes_new(size_t bytes)
+{
+    return guarded_new(bytes);
+}
+
+void lent_bytes_free(uint8_t *buffer, size_t bytes)
+{
+    guarded_free(buffer, bytes);
+}
+
+const uint8_t *lent_vast_new(size_t bytes, const uint8_t *front, size_t nfront)
+{
+    uint8_t *start = mmap(NULL, bytes, PROT_READ, MAP_PRIVATE | MAP_ANONYMOUS | MAP_NORESERVE,
+                          -1, 0);
+
+    need(start != MAP_FAILED && mprotect(start, system_page(), PROT_READ | PROT_WRITE) == 0);
+    memcpy(start, front, nfront);
+    return start;
+}
+
+void lent_vast_free(const uint8_t *buffer, size_t bytes)
+{
+    munmap((void *)(uintptr_t)buffer, bytes);
 }
 
 void lent_copy(struct records *to, const struct records *from)

@@ -4,7 +4,9 @@
  * Each answer, and after each call all three buffers, are compared with the
  * independent pool of pool.c; document 01's samples with its own numbers too.
  * One line is printed for each named group, then the count of groups.
- * Usage: series [SEED]
+ * Usage: series [SEED [CALLS]]
+ * With a number of calls only the long random series are made, in rounds, until
+ * there were at least so many.
  */
 #include "calls.h"
 #include "draws.h"
@@ -16,6 +18,7 @@
 
 #include <inttypes.h>
 #include <stdio.h>
+#include <stdlib.h>
 #include <string.h>
 
 /* ---- The samples of document 01 -------------------------------------------- */
@@ -572,35 +575,6 @@ static void start_in_pieces(struct twin *twin, unsigned b)
     twin_settle(twin);
 }
 
-static uint64_t small_size(unsigned b)
-{
-    (void)b;
-    return rng_below(&rng, 64) ? draw_small_size() : draw_hostile_size();
-}
-
-static uint64_t any_size(unsigned b)
-{
-    switch (rng_below(&rng, 8)) {
-    case 0:
-        return draw_hostile_size();
-    case 1:
-        return draw_large_size(511);
-    case 2:
-    case 3:
-        return draw_large_size(40);
-    default:
-        return small_size(b);
-    }
-}
-
-static uint64_t large_size(unsigned b)
-{
-    static const unsigned most[] = {3, 10, 70, 140, 511};
-
-    (void)b;
-    return draw_large_size(most[rng_below(&rng, COUNT(most))]);
-}
-
 /* Few calls fill a pool. */
 static uint64_t filling_size(unsigned b)
 {
@@ -608,25 +582,20 @@ static uint64_t filling_size(unsigned b)
     return rng_below(&rng, 2) ? draw_size_of_class(20 + rng_below(&rng, 10)) : draw_large_size(30);
 }
 
-static uint64_t size_of_class(unsigned b)
-{
-    return rng_below(&rng, 64) ? draw_size_of_class(b) : any_size(b);
-}
-
 /* Around the lengths of the gaps that there are. */
 static uint64_t piece_size(unsigned b)
 {
     if (rng_below(&rng, 4) == 0)
         return draw_size_of_class(16 + rng_below(&rng, 14));
-    return rng_below(&rng, 8) ? draw_large_size(12) : any_size(b);
+    return rng_below(&rng, 8) ? draw_large_size(12) : draw_any_size(b);
 }
 
 static const struct mix mixes[] = {
-    {"small-sizes", start_anyhow, small_size, 55, 35, false},
-    {"all-sizes", start_anyhow, any_size, 50, 40, false},
-    {"large-only", start_anyhow, large_size, 48, 42, false},
+    {"small-sizes", start_anyhow, draw_mostly_small, 55, 35, false},
+    {"all-sizes", start_anyhow, draw_any_size, 50, 40, false},
+    {"large-only", start_anyhow, draw_large_only, 48, 42, false},
     {"fill-up-then-drain", start_at_a_tide, filling_size, 80, 10, true},
-    {"one-class-only", start_with_class, size_of_class, 48, 42, false},
+    {"one-class-only", start_with_class, draw_mostly_class, 48, 42, false},
     {"fragmented", start_in_pieces, piece_size, 45, 45, false},
 };
 
@@ -697,7 +666,7 @@ static void run_series(struct twin *twin, const struct mix *mix, unsigned b, uns
 /* The more chunks, the longer a call takes and the fewer are made. */
 static unsigned calls_of(unsigned c)
 {
-    return 250 + 3500 / c;
+    return 900 + 5600 / c;
 }
 
 /* For each count of chunks four series. */
@@ -711,40 +680,65 @@ static void run_mix(const struct mix *mix)
     }
 }
 
-static void expect_enough_reads(void)
-{
-    expect(tally.next[0] >= 50000, "only %lu calls of next", tally.next[0]);
-    expect(tally.next_none >= 5000, "only %lu without a block", tally.next_none);
-    expect(tally.totals[0] >= 10000, "only %lu totals", tally.totals[0]);
-    expect(tally.census[0] >= 5000, "only %lu censuses", tally.census[0]);
-    expect(tally.census[7] >= 3000, "only %lu in short rooms", tally.census[7]);
-}
-
-static void test_random_series(void)
+/* Each mix is a group; answers how many calls they made. */
+static unsigned long run_mixes(void)
 {
     unsigned long calls = 0;
 
-    memset(&tally, 0, sizeof tally);
     for (size_t i = 0; i < COUNT(mixes); i++) {
         group_begin("random", mixes[i].name);
         run_mix(&mixes[i]);
         calls += group.trials;
         group_end();
     }
-    group_begin("random", "enough-of-each-answer");
+    return calls;
+}
+
+static void expect_enough_changes(void)
+{
+    expect(tally.reserve[0] >= 100000, "only %lu served", tally.reserve[0]);
+    expect(tally.reserve[3] >= 2000, "only %lu too big", tally.reserve[3]);
+    expect(tally.reserve[4] >= 2000, "only %lu without room", tally.reserve[4]);
+    expect(tally.release[0] >= 100000, "only %lu released", tally.release[0]);
+    expect(tally.release[5] >= 10000, "only %lu at no block", tally.release[5]);
+    expect(tally.release[6] >= 2000, "only %lu at free slots", tally.release[6]);
+}
+
+static void expect_enough_reads(void)
+{
+    expect(tally.block_size[0] >= 20000, "only %lu sizes", tally.block_size[0]);
+    expect(tally.block_size[5] >= 4000, "only %lu sizes of no block", tally.block_size[5]);
+    expect(tally.block_size[6] >= 1000, "only %lu sizes of free slots", tally.block_size[6]);
+    expect(tally.next[0] >= 100000, "only %lu calls of next", tally.next[0]);
+    expect(tally.next_none >= 10000, "only %lu without a block", tally.next_none);
+    expect(tally.totals[0] >= 20000, "only %lu totals", tally.totals[0]);
+    expect(tally.census[0] >= 10000, "only %lu censuses", tally.census[0]);
+    expect(tally.census[7] >= 6000, "only %lu in short rooms", tally.census[7]);
+}
+
+static void test_random_series(void)
+{
+    unsigned long calls;
+
+    memset(&tally, 0, sizeof tally);
+    calls = run_mixes();
+    group_begin("random", "a-million-and-enough-of-each-answer");
     group.trials = calls;
-    expect(calls >= 450000, "only %lu calls", calls);
-    expect(tally.reserve[0] >= 50000, "only %lu served", tally.reserve[0]);
-    expect(tally.reserve[3] >= 1000, "only %lu too big", tally.reserve[3]);
-    expect(tally.reserve[4] >= 1000, "only %lu without room", tally.reserve[4]);
-    expect(tally.release[0] >= 50000, "only %lu released", tally.release[0]);
-    expect(tally.release[5] >= 5000, "only %lu at no block", tally.release[5]);
-    expect(tally.release[6] >= 1000, "only %lu at free slots", tally.release[6]);
-    expect(tally.block_size[0] >= 10000, "only %lu sizes", tally.block_size[0]);
-    expect(tally.block_size[5] >= 2000, "only %lu sizes of no block", tally.block_size[5]);
-    expect(tally.block_size[6] >= 500, "only %lu sizes of free slots", tally.block_size[6]);
+    expect(calls >= 1000000, "only %lu calls", calls);
+    expect_enough_changes();
     expect_enough_reads();
     group_end();
+}
+
+static void test_long_series(unsigned long long least)
+{
+    unsigned long calls = 0;
+
+    while (calls < least) {
+        calls += run_mixes();
+        printf("%lu calls\n", calls);
+        fflush(stdout);
+    }
 }
 
 /* ---- Places ------------------------------------------------------------------------ */
@@ -899,22 +893,6 @@ static void expect_shape_refused(uint64_t c, struct lengths n)
     shelf = shelf_before;
 }
 
-static void test_bad_shapes(const char *records, void (*fill)(void))
-{
-    char name[40];
-
-    snprintf(name, sizeof name, "chunk-count-%s", records);
-    group_begin("refused-1", name);
-    fill();
-    try_bad_counts(expect_shape_refused);
-    group_end();
-    snprintf(name, sizeof name, "length-%s", records);
-    group_begin("refused-1", name);
-    fill();
-    try_bad_lengths(expect_shape_refused);
-    group_end();
-}
-
 /* An empty buffer's pointer need only be non-null and aligned. */
 static void test_empty_buffers(void)
 {
@@ -955,9 +933,8 @@ static void test_damaged_records(void)
     try_damage_cases("refused-2", efforts, COUNT(efforts), expect_damage_refused);
 }
 
-int main(int argc, char **argv)
+static void test_all(void)
 {
-    program_begin(argc, argv);
     test_samples();
     test_one_gap();
     test_three_gaps();
@@ -970,9 +947,18 @@ int main(int argc, char **argv)
     test_hostile_places();
     test_page_0();
     test_readers();
-    test_bad_shapes("sound-records", shelf_fill_sound);
-    test_bad_shapes("damaged-records", shelf_fill_random);
+    try_bad_shapes("sound-records", shelf_fill_sound, expect_shape_refused);
+    try_bad_shapes("damaged-records", shelf_fill_random, expect_shape_refused);
     test_empty_buffers();
     test_damaged_records();
+}
+
+int main(int argc, char **argv)
+{
+    program_begin(argc, argv);
+    if (argc > 2)
+        test_long_series(strtoull(argv[2], NULL, 0));
+    else
+        test_all();
     return program_end("series");
 }

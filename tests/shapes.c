@@ -2,6 +2,8 @@
 
 #include "groups.h"
 
+#include <stdio.h>
+
 struct shelf shelf, shelf_before;
 
 struct records shelf_records(struct shelf *s, size_t c)
@@ -108,4 +110,20 @@ void try_bad_lengths(shape_trial *try_it)
             try_length_of(counts[i], other, try_it);
     }
     try_mixed_up_lengths(try_it);
+}
+
+void try_bad_shapes(const char *records, void (*fill)(void), shape_trial *try_it)
+{
+    char name[40];
+
+    snprintf(name, sizeof name, "chunk-count-%s", records);
+    group_begin("refused-1", name);
+    fill();
+    try_bad_counts(try_it);
+    group_end();
+    snprintf(name, sizeof name, "length-%s", records);
+    group_begin("refused-1", name);
+    fill();
+    try_bad_lengths(try_it);
+    group_end();
 }

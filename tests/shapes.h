@@ -31,4 +31,7 @@ typedef void shape_trial(uint64_t c, struct lengths n);
 void try_bad_counts(shape_trial *try_it);
 void try_bad_lengths(shape_trial *try_it);
 
+/* Both, each a group of refusals 1, on records that `fill` puts on the shelf. */
+void try_bad_shapes(const char *records, void (*fill)(void), shape_trial *try_it);
+
 #endif

@@ -1,0 +1,356 @@
+/*
+ * A small table editor, to show how a C program keeps its data in Lensember's
+ * pools. Each ear has a pool: records that are lent to every call, and an arena
+ * whose bytes are the program's own. A band row is a block of 24 bytes; a table
+ * is a block that holds the places of its rows.
+ *
+ * The editor enters a table, copies it to the other ear, trims it, drops it,
+ * lists what is left, survives a damaged record, and says what it did.
+ */
+#include "lensember.h"
+
+#include <inttypes.h>
+#include <stdio.h>
+#include <stdlib.h>
+#include <string.h>
+
+/* ---- An ear: records and an arena ---------------------------------------- */
+
+enum {
+    CHUNKS = 2,
+    NBITS = CHUNKS * LENSEMBER_CHUNK_BITS,
+    NWORDS = CHUNKS * LENSEMBER_CHUNK_WORDS,
+    NSLOTS = CHUNKS * LENSEMBER_CHUNK_SLOTS,
+    ARENA_BYTES = CHUNKS * LENSEMBER_CHUNK_BYTES
+};
+
+struct records {
+    uint64_t bits[NBITS];
+    uint32_t words[NWORDS];
+    uint64_t slots[NSLOTS];
+};
+
+struct ear {
+    const char *name;
+    uint64_t number;        /* 0 left, 1 right */
+    struct records records; /* lent to each call */
+    uint8_t arena[ARENA_BYTES];
+};
+
+static struct ear left = {.name = "left", .number = 0};
+static struct ear right = {.name = "right", .number = 1};
+
+/* The six arguments that lend an ear's records. */
+#define LENT(ear) \
+    (ear)->records.bits, NBITS, (ear)->records.words, NWORDS, (ear)->records.slots, NSLOTS
+
+/* Ends the program where a call was refused that this editor never expects to be. */
+static void must(uint64_t refusal, const char *call)
+{
+    if (refusal == LENSEMBER_OK)
+        return;
+    fprintf(stderr, "editor: %s is refused %" PRIu64 "\n", call, refusal);
+    exit(1);
+}
+
+static void open_ear(struct ear *ear)
+{
+    must(lensember_fresh(CHUNKS, LENT(ear)), "fresh");
+    printf("%s ear: a fresh pool of %d chunks\n", ear->name, CHUNKS);
+}
+
+/* ---- Blocks --------------------------------------------------------------- */
+
+static uint64_t reserve(struct ear *ear, uint64_t size)
+{
+    struct lensember_reserved block = lensember_reserve(CHUNKS, LENT(ear), size);
+
+    must(block.refusal, "reserve");
+    return block.place;
+}
+
+static void release(struct ear *ear, uint64_t place)
+{
+    must(lensember_release(CHUNKS, LENT(ear), place), "release");
+}
+
+static uint64_t size_of(const struct ear *ear, uint64_t place)
+{
+    struct lensember_sized block = lensember_block_size(CHUNKS, LENT(ear), place);
+
+    must(block.refusal, "block size");
+    return block.size;
+}
+
+/* Where the block's bytes are. They stay there until it is released. */
+static uint8_t *bytes_of(struct ear *ear, uint64_t place)
+{
+    struct lensember_part part = lensember_bytes(ear->number, CHUNKS, LENT(ear), place,
+                                                 sizeof left.arena, sizeof right.arena);
+
+    must(part.refusal, "bytes");
+    return ear->arena + part.start;
+}
+
+/* ---- Rows ------------------------------------------------------------------ */
+
+/* 24 bytes, which is a size class: no byte of the slot is spare. */
+struct row {
+    uint32_t band, hertz;
+    int32_t gains[4]; /* for soft, medium, loud and very loud sounds */
+};
+
+static void put_row(struct ear *ear, uint64_t place, const struct row *row)
+{
+    memcpy(bytes_of(ear, place), row, sizeof *row);
+}
+
+static struct row get_row(struct ear *ear, uint64_t place)
+{
+    struct row row;
+
+    memcpy(&row, bytes_of(ear, place), sizeof row);
+    return row;
+}
+
+/* What the booth measured in a band. */
+static struct row measured(uint32_t band)
+{
+    int32_t loss = 20 + 2 * (int32_t)band;
+    struct row row = {band, 250 + 250 * band, {loss, loss * 3 / 4, loss / 2, loss / 4}};
+
+    return row;
+}
+
+/* ---- Tables ---------------------------------------------------------------- */
+
+struct table {
+    struct ear *ear;
+    uint64_t place; /* of the block that holds the places of the rows */
+    unsigned rows;
+};
+
+static uint64_t row_place(const struct table *table, unsigned number)
+{
+    uint64_t place;
+
+    memcpy(&place, bytes_of(table->ear, table->place) + number * sizeof place, sizeof place);
+    return place;
+}
+
+static void set_row_place(const struct table *table, unsigned number, uint64_t place)
+{
+    memcpy(bytes_of(table->ear, table->place) + number * sizeof place, &place, sizeof place);
+}
+
+static struct row table_row(const struct table *table, unsigned number)
+{
+    return get_row(table->ear, row_place(table, number));
+}
+
+/* The rows are reserved, their bytes not yet written. */
+static struct table table_of(struct ear *ear, unsigned rows)
+{
+    struct table table = {ear, reserve(ear, rows * sizeof(uint64_t)), rows};
+
+    for (unsigned i = 0; i < rows; i++)
+        set_row_place(&table, i, reserve(ear, sizeof(struct row)));
+    return table;
+}
+
+static void tell(const struct table *table, const char *what)
+{
+    printf("%s ear: %s, %u rows; the table lies at %" PRIu64 ", size %" PRIu64 "\n",
+           table->ear->name, what, table->rows, table->place, size_of(table->ear, table->place));
+}
+
+static struct table enter(struct ear *ear, unsigned bands)
+{
+    struct table table = table_of(ear, bands);
+
+    for (unsigned i = 0; i < bands; i++) {
+        struct row row = measured(i);
+        put_row(ear, row_place(&table, i), &row);
+    }
+    tell(&table, "entered");
+    return table;
+}
+
+static struct table copy(const struct table *from, struct ear *to)
+{
+    struct table table = table_of(to, from->rows);
+
+    for (unsigned i = 0; i < from->rows; i++) {
+        struct row row = table_row(from, i);
+        put_row(to, row_place(&table, i), &row);
+    }
+    tell(&table, "copied");
+    return table;
+}
+
+/* Drops the last rows and moves the places of the others to a smaller block. */
+static void trim(struct table *table, unsigned rows)
+{
+    size_t kept = rows * sizeof(uint64_t);
+    uint64_t smaller;
+
+    for (unsigned i = rows; i < table->rows; i++)
+        release(table->ear, row_place(table, i));
+    smaller = reserve(table->ear, kept);
+    memcpy(bytes_of(table->ear, smaller), bytes_of(table->ear, table->place), kept);
+    release(table->ear, table->place);
+    table->place = smaller;
+    table->rows = rows;
+    tell(table, "trimmed");
+}
+
+static void drop(const struct table *table)
+{
+    for (unsigned i = 0; i < table->rows; i++)
+        release(table->ear, row_place(table, i));
+    release(table->ear, table->place);
+    printf("%s ear: dropped, the table at %" PRIu64 " and its %u rows\n",
+           table->ear->name, table->place, table->rows);
+}
+
+static void read_out(const struct table *table)
+{
+    printf("%s ear: the table at %" PRIu64 " reads\n", table->ear->name, table->place);
+    for (unsigned i = 0; i < table->rows; i++) {
+        struct row row = table_row(table, i);
+        printf("  band %2" PRIu32 "  %4" PRIu32 " Hz  gains %2" PRId32 " %2" PRId32 " %2" PRId32
+               " %2" PRId32 "\n",
+               row.band, row.hertz, row.gains[0], row.gains[1], row.gains[2], row.gains[3]);
+    }
+}
+
+/* ---- What is there ---------------------------------------------------------- */
+
+static struct lensember_summed totals(const struct ear *ear)
+{
+    struct lensember_summed sums = lensember_totals(CHUNKS, LENT(ear));
+
+    must(sums.refusal, "totals");
+    return sums;
+}
+
+static void print_totals(const struct ear *ear)
+{
+    struct lensember_summed sums = totals(ear);
+
+    printf("%s ear: %" PRIu64 " blocks, %" PRIu64 " bytes, %" PRIu64 " free pages\n",
+           ear->name, sums.blocks, sums.bytes, sums.free_pages);
+}
+
+/* All blocks in one call. Totals say how much room the list needs. */
+static void list_by_census(const struct ear *ear)
+{
+    size_t nroom = 2 * (size_t)totals(ear).blocks;
+    uint64_t *room = malloc((nroom + 1) * sizeof *room); /* room for none, too */
+    struct lensember_counted blocks;
+
+    if (room == NULL) {
+        perror("editor");
+        exit(1);
+    }
+    blocks = lensember_census(CHUNKS, LENT(ear), room, nroom);
+    must(blocks.refusal, "census");
+    printf("%s ear: %" PRIu64 " blocks by census:", ear->name, blocks.count);
+    for (uint64_t i = 0; i < blocks.count; i++)
+        printf(" %" PRIu64 "+%" PRIu64, room[2 * i], room[2 * i + 1]);
+    printf("\n");
+    free(room);
+}
+
+/* The same without any room: from each block to the one behind it. */
+static void list_by_next(const struct ear *ear)
+{
+    struct lensember_found block = lensember_next(CHUNKS, LENT(ear), 0);
+
+    printf("%s ear: block by block:", ear->name);
+    while (block.place != 0) {
+        printf(" %" PRIu64 "+%" PRIu64, block.place, block.size);
+        block = lensember_next(CHUNKS, LENT(ear), block.place + block.size);
+    }
+    must(block.refusal, "next");
+    printf("\n");
+}
+
+/* ---- Mistakes, and a damaged record ------------------------------------------ */
+
+/* A refused call changes nothing, so a mistake costs nothing. */
+static void make_mistakes(struct ear *ear, uint64_t dropped, uint64_t live)
+{
+    printf("%s ear: releasing a dropped row again is refused %" PRIu64 "\n", ear->name,
+           lensember_release(CHUNKS, LENT(ear), dropped));
+    printf("%s ear: releasing the middle of a row is refused %" PRIu64 "\n", ear->name,
+           lensember_release(CHUNKS, LENT(ear), live + sizeof(struct row) / 2));
+    printf("%s ear: reserving 3000000 bytes is refused %" PRIu64 "\n", ear->name,
+           lensember_reserve(CHUNKS, LENT(ear), 3000000).refusal);
+}
+
+/* Every call on a pool looks at all its records first. */
+static void try_all_calls(struct ear *ear, uint64_t live)
+{
+    uint64_t room[2];
+
+    printf("%s ear: check %" PRIu64 ", reserve %" PRIu64 ", release %" PRIu64
+           ", block size %" PRIu64 ", next %" PRIu64 ", census %" PRIu64 ", totals %" PRIu64
+           ", bytes %" PRIu64 "\n",
+           ear->name,
+           lensember_check(CHUNKS, LENT(ear)),
+           lensember_reserve(CHUNKS, LENT(ear), sizeof(struct row)).refusal,
+           lensember_release(CHUNKS, LENT(ear), live),
+           lensember_block_size(CHUNKS, LENT(ear), live).refusal,
+           lensember_next(CHUNKS, LENT(ear), 0).refusal,
+           lensember_census(CHUNKS, LENT(ear), room, 2).refusal,
+           lensember_totals(CHUNKS, LENT(ear)).refusal,
+           lensember_bytes(ear->number, CHUNKS, LENT(ear), live,
+                           sizeof left.arena, sizeof right.arena).refusal);
+}
+
+static void survive_damage(struct ear *ear, uint64_t live)
+{
+    static struct records saved, damaged;
+
+    saved = ear->records;
+    ear->records.words[5] ^= 4;
+    damaged = ear->records;
+    printf("%s ear: one bit of a page word is turned over\n", ear->name);
+    try_all_calls(ear, live);
+    printf("%s ear: the refused calls changed %s\n", ear->name,
+           memcmp(&ear->records, &damaged, sizeof damaged) == 0 ? "nothing" : "something");
+    ear->records = saved;
+    printf("%s ear: restored from the saved copy, check answers %" PRIu64 "\n", ear->name,
+           lensember_check(CHUNKS, LENT(ear)));
+}
+
+/* ---- A morning ----------------------------------------------------------------- */
+
+int main(void)
+{
+    struct table day, other, long_one;
+    uint64_t gone;
+
+    open_ear(&left);
+    open_ear(&right);
+
+    day = enter(&left, 22);
+    other = copy(&day, &right);
+    long_one = enter(&left, 600); /* its places take a run of pages */
+    trim(&long_one, 6);
+    trim(&other, 8);
+    gone = row_place(&day, 0);
+    drop(&day);
+
+    list_by_census(&left);
+    list_by_next(&right);
+    make_mistakes(&left, gone, row_place(&long_one, 0));
+    survive_damage(&right, row_place(&other, 0));
+
+    read_out(&long_one);
+    read_out(&other);
+    print_totals(&left);
+    print_totals(&right);
+    return 0;
+}

@@ -1,0 +1,113 @@
+#include "known.h"
+
+#define START "\x01\x00\x01\x01"
+#define RESERVE "\x02\x00\x04"
+#define RELEASE "\x03\x00\x04"
+#define END "\x04\x00\x00"
+#define LOG(fields) (const uint8_t *)(fields), sizeof(fields) - 1
+
+#define RESERVE_24 RESERVE "\x00\x00\x00\x18"
+#define SERVED_24 "pool 1\nreserve 24 at 4096 size 24\n"
+
+const struct known_log known_logs[] = {
+    {"sample",
+     LOG(START RESERVE_24 RESERVE_24 RESERVE "\x00\x00\x13\x88" RELEASE "\x00\x00\x10\x00"
+         RESERVE "\x00\x00\x00\x0A" RESERVE "\x00\x00\x00\x14" RELEASE "\x00\x00\x10\x04" END),
+     0, 0,
+     "pool 1\n"
+     "reserve 24 at 4096 size 24\n"
+     "reserve 24 at 4120 size 24\n"
+     "reserve 5000 at 8192 size 8192\n"
+     "release 4096 ok\n"
+     "reserve 10 at 16384 size 16\n"
+     "reserve 20 at 4096 size 24\n"
+     "release 4100 refused 5\n"
+     "live 4 free pages 507\n"},
+
+    /* nothing, and less than a header */
+    {"empty", LOG(""), 8, 0, "log refused 8 at 0\n"},
+    {"tag-alone", LOG("\x01"), 8, 0, "log refused 8 at 0\n"},
+    {"unknown-tag-alone", LOG("\xFF"), 8, 0, "log refused 8 at 0\n"},
+    {"two-bytes", LOG("\x01\x00"), 8, 0, "log refused 8 at 0\n"},
+    {"two-unknown-bytes", LOG("\xFF\xFF"), 8, 0, "log refused 8 at 0\n"},
+
+    /* the start */
+    {"start-without-count", LOG("\x01\x00\x01"), 8, 0, "log refused 8 at 0\n"},
+    {"start-count-0", LOG("\x01\x00\x01\x00" END), 9, 0, "log refused 9 at 0\n"},
+    {"start-count-17", LOG("\x01\x00\x01\x11" END), 9, 0, "log refused 9 at 0\n"},
+    {"start-count-2", LOG("\x01\x00\x01\x02" END), 9, 0, "log refused 9 at 0\n"},
+    {"start-count-16", LOG("\x01\x00\x01\x10" END), 9, 0, "log refused 9 at 0\n"},
+    {"start-count-255", LOG("\x01\x00\x01\xFF" END), 9, 0, "log refused 9 at 0\n"},
+    {"start-length-0", LOG("\x01\x00\x00" END), 9, 0, "log refused 9 at 0\n"},
+    {"start-length-2", LOG("\x01\x00\x02\x00\x01" END), 9, 0, "log refused 9 at 0\n"},
+    {"start-length-low-byte-first", LOG("\x01\x01\x00\x01" END), 9, 0, "log refused 9 at 0\n"},
+    {"start-length-257", LOG("\x01\x01\x01\x01" END), 9, 0, "log refused 9 at 0\n"},
+    {"reserve-first", LOG(RESERVE_24 START END), 9, 0, "log refused 9 at 0\n"},
+    {"release-first", LOG(RELEASE "\x00\x00\x10\x00" START END), 9, 0, "log refused 9 at 0\n"},
+    {"end-first", LOG(END), 9, 0, "log refused 9 at 0\n"},
+    {"unknown-first", LOG("\x05\x00\x00" START END), 9, 0, "log refused 9 at 0\n"},
+    {"zeros", LOG("\x00\x00\x00\x00\x00\x00\x00"), 9, 0, "log refused 9 at 0\n"},
+
+    /* behind the start */
+    {"start-alone", LOG(START), 8, 4, "pool 1\nlog refused 8 at 4\n"},
+    {"start-and-end", LOG(START END), 0, 0, "pool 1\nlive 0 free pages 511\n"},
+    {"unknown-byte-behind-start", LOG(START "\xFF"), 8, 4, "pool 1\nlog refused 8 at 4\n"},
+    {"end-of-two-bytes", LOG(START "\x04\x00"), 8, 4, "pool 1\nlog refused 8 at 4\n"},
+    {"second-start", LOG(START START END), 9, 4, "pool 1\nlog refused 9 at 4\n"},
+    {"second-start-without-count", LOG(START "\x01\x00\x01"), 9, 4, "pool 1\nlog refused 9 at 4\n"},
+    {"tag-0", LOG(START "\x00\x00\x00" END), 9, 4, "pool 1\nlog refused 9 at 4\n"},
+    {"tag-5", LOG(START "\x05\x00\x00" END), 9, 4, "pool 1\nlog refused 9 at 4\n"},
+    {"tag-130", LOG(START "\x82\x00\x04\x00\x00\x00\x18" END), 9, 4,
+     "pool 1\nlog refused 9 at 4\n"},
+    {"tag-5-without-body", LOG(START "\x05\x00\x04"), 9, 4, "pool 1\nlog refused 9 at 4\n"},
+
+    /* reserve and release */
+    {"reserve-without-body", LOG(START RESERVE), 8, 4, "pool 1\nlog refused 8 at 4\n"},
+    {"reserve-of-three-bytes", LOG(START RESERVE "\x00\x00\x18"), 8, 4,
+     "pool 1\nlog refused 8 at 4\n"},
+    {"reserve-alone", LOG(START RESERVE_24), 8, 11, SERVED_24 "log refused 8 at 11\n"},
+    {"reserve-length-3", LOG(START "\x02\x00\x03\x00\x00\x18" END), 9, 4,
+     "pool 1\nlog refused 9 at 4\n"},
+    {"reserve-length-5-without-body", LOG(START "\x02\x00\x05"), 9, 4,
+     "pool 1\nlog refused 9 at 4\n"},
+    {"reserve-length-0", LOG(START "\x02\x00\x00" END), 9, 4, "pool 1\nlog refused 9 at 4\n"},
+    {"reserve-length-260", LOG(START "\x02\x01\x04\x00\x00\x00\x18" END), 9, 4,
+     "pool 1\nlog refused 9 at 4\n"},
+    {"reserve-length-low-byte-first", LOG(START "\x02\x04\x00\x00\x00\x00\x18" END), 9, 4,
+     "pool 1\nlog refused 9 at 4\n"},
+    {"release-without-body", LOG(START RESERVE_24 RELEASE), 8, 11,
+     SERVED_24 "log refused 8 at 11\n"},
+    {"release-of-three-bytes", LOG(START RESERVE_24 RELEASE "\x00\x00\x10"), 8, 11,
+     SERVED_24 "log refused 8 at 11\n"},
+    {"release-length-8", LOG(START RESERVE_24 "\x03\x00\x08\x00\x00\x00\x00\x00\x00\x10\x00" END),
+     9, 11, SERVED_24 "log refused 9 at 11\n"},
+    {"release-twice",
+     LOG(START RESERVE_24 RELEASE "\x00\x00\x10\x00" RELEASE "\x00\x00\x10\x00" END), 0, 0,
+     SERVED_24 "release 4096 ok\nrelease 4096 refused 6\nlive 0 free pages 510\n"},
+    {"release-of-place-0", LOG(START RELEASE "\x00\x00\x00\x00" END), 0, 0,
+     "pool 1\nrelease 0 refused 5\nlive 0 free pages 511\n"},
+    {"release-behind-pool", LOG(START RELEASE "\x00\x20\x10\x00" END), 0, 0,
+     "pool 1\nrelease 2101248 refused 5\nlive 0 free pages 511\n"},
+    {"largest-numbers", LOG(START RESERVE "\xFF\xFF\xFF\xFF" RELEASE "\xFF\xFF\xFF\xFF" END), 0, 0,
+     "pool 1\nreserve 4294967295 refused 3\nrelease 4294967295 refused 5\n"
+     "live 0 free pages 511\n"},
+    {"size-0", LOG(START RESERVE "\x00\x00\x00\x00" END), 0, 0,
+     "pool 1\nreserve 0 at 4096 size 8\nlive 1 free pages 510\n"},
+    {"whole-chunk", LOG(START RESERVE "\x00\x1F\xF0\x00" RESERVE_24 RESERVE "\x00\x1F\xF0\x01" END),
+     0, 0,
+     "pool 1\nreserve 2093056 at 4096 size 2093056\nreserve 24 refused 4\n"
+     "reserve 2093057 refused 3\nlive 1 free pages 0\n"},
+
+    /* the end */
+    {"end-length-1", LOG(START "\x04\x00\x01\x00"), 9, 4, "pool 1\nlog refused 9 at 4\n"},
+    {"end-length-256", LOG(START "\x04\x01\x00"), 9, 4, "pool 1\nlog refused 9 at 4\n"},
+    {"one-byte-after-end", LOG(START END "\x04"), 9, 7, "pool 1\nlog refused 9 at 7\n"},
+    {"zero-byte-after-end", LOG(START END "\x00"), 9, 7, "pool 1\nlog refused 9 at 7\n"},
+    {"two-bytes-after-end", LOG(START END "\x04\x00"), 9, 7, "pool 1\nlog refused 9 at 7\n"},
+    {"second-end", LOG(START END END), 9, 7, "pool 1\nlog refused 9 at 7\n"},
+    {"start-after-end", LOG(START RESERVE_24 END START END), 9, 14,
+     SERVED_24 "log refused 9 at 14\n"},
+    {"reserve-after-end", LOG(START END RESERVE_24), 9, 7, "pool 1\nlog refused 9 at 7\n"},
+};
+
+const size_t known_log_count = sizeof known_logs / sizeof known_logs[0];

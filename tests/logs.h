@@ -1,0 +1,43 @@
+/*
+ * An independent reading of document 01, "The request log".
+ *
+ * The log is first cut into pieces, by the lengths that are written in it and
+ * whatever they say. Then the pieces are judged in turn, up to the first bad
+ * one. Only then are those before it worked, on the pool of pool.c, and told
+ * in lines.
+ */
+#ifndef LOGS_H
+#define LOGS_H
+
+#include "pool.h"
+
+/* What a log may hold: one byte tag, two bytes length, then the body. */
+enum { TAG_START = 1, TAG_RESERVE = 2, TAG_RELEASE = 3, TAG_END = 4 };
+enum { HEADER_BYTES = 3 };
+
+/* Lines as they are written. Starts as zero. */
+struct text {
+    size_t length, space;
+    char *bytes;
+};
+
+void text_free(struct text *text);
+
+/* How often calls were answered 0 to 6. */
+enum { CALL_ANSWERS = 7 };
+
+struct log_outcome {
+    uint64_t refusal, position;
+    bool started;         /* else nothing lent has changed */
+    unsigned long fields; /* that were worked */
+    unsigned long reserves[CALL_ANSWERS], releases[CALL_ANSWERS];
+};
+
+/*
+ * Replays the log on a pool that is lent with c chunks, and writes the lines
+ * of it. Where no start is accepted the pool stays as it was.
+ */
+struct log_outcome log_replay(struct pool *pool, size_t c, const uint8_t *log, size_t nlog,
+                              struct text *lines);
+
+#endif
