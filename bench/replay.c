@@ -1,0 +1,274 @@
+/*
+ * How long does a replay take, against a pool by the same rules that was
+ * written in C without a proof (plain.h), and how long does a pair of a
+ * release and a reserve in it take, against the allocators that this machine
+ * has: PHP's own, where its library is installed, and malloc? All are timed in
+ * turn in one run; of each the shortest time counts.
+ */
+#define _POSIX_C_SOURCE 199309L /* clock_gettime */
+
+#include "lensember.h"
+#include "model.h"
+#include "others.h"
+#include "plain.h"
+
+#include <stdio.h>
+#include <stdlib.h>
+#include <string.h>
+#include <time.h>
+
+enum { PAIRS = 100000, MOST_LIVE = MAX_CHUNKS * 4000, ROUNDS = 9 };
+
+/* A kind of log: what is reserved first, and what the pairs then do. */
+struct kind {
+    const char *name;
+    unsigned live_a_chunk; /* blocks reserved before the pairs; 0: until the pool is full */
+    uint64_t low, high;    /* the sizes, from low to high */
+    int holes;             /* whether every second block is given back before the pairs */
+};
+
+static const struct kind kinds[] = {
+    {"fresh, rows of 1 to 64 bytes", 100, 1, 64, 0},
+    {"fresh, rows of 1 to 3,072 bytes", 100, 1, 3072, 0},
+    {"half full, rows of 1 to 3,072 bytes", 0, 1, 3072, 1},
+    {"half full, rows and tables to 40,000", 0, 1, 40000, 1},
+    {"full, rows of 1 to 3,072 bytes", 0, 1, 3072, 0},
+    {"full, rows and tables to 40,000", 0, 1, 40000, 0},
+};
+
+static uint64_t bits[MAX_CHUNKS * BIT_WORDS];
+static uint32_t words[MAX_CHUNKS * PAGES];
+static uint64_t slots[MAX_CHUNKS * SLOT_WORDS];
+
+static uint8_t log_bytes[4 + 7 * (2 * MOST_LIVE + 2 * PAIRS) + 3];
+static size_t log_length;
+static size_t before_pairs; /* the length of the log that ends before the pairs */
+
+static uint64_t place_of[MOST_LIVE];
+static uint64_t size_of[MOST_LIVE];
+static size_t live;
+
+/* The pairs, for the allocators: which block is given back, the size of the next. */
+static struct pair pairs[PAIRS];
+static size_t live_before_pairs;
+static uint64_t sizes_before_pairs[MOST_LIVE];
+
+static double seconds_now(void)
+{
+    struct timespec now;
+
+    clock_gettime(CLOCK_MONOTONIC, &now);
+    return (double)now.tv_sec + (double)now.tv_nsec * 1e-9;
+}
+
+static uint64_t state;
+
+static uint64_t draw(uint64_t low, uint64_t high)
+{
+    state ^= state << 13;
+    state ^= state >> 7;
+    state ^= state << 17;
+    return low + (state >> 11) % (high - low + 1);
+}
+
+/* ---- The log ------------------------------------------------------------- */
+
+static void write_field(unsigned tag, uint64_t number)
+{
+    uint8_t *at = log_bytes + log_length;
+
+    at[0] = (uint8_t)tag;
+    at[1] = 0;
+    at[2] = 4;
+    for (unsigned i = 0; i < 4; i++)
+        at[3 + i] = (uint8_t)(number >> (24 - 8 * i));
+    log_length += 7;
+}
+
+/* A reserve; whether it was served. */
+static int put(uint64_t size)
+{
+    write_field(2, size);
+    if (plain_reserve(size, &place_of[live]) != 0)
+        return 0;
+    size_of[live++] = size;
+    return 1;
+}
+
+static void take_out(size_t i)
+{
+    write_field(3, place_of[i]);
+    plain_release(place_of[i]);
+    live--;
+    place_of[i] = place_of[live];
+    size_of[i] = size_of[live];
+}
+
+static void fill(const struct kind *kind, size_t c)
+{
+    size_t most = kind->live_a_chunk ? kind->live_a_chunk * c : MOST_LIVE - 1;
+
+    while (live < most && put(draw(kind->low, kind->high)))
+        ;
+    if (kind->holes)
+        for (size_t i = 0; i < live; i++)
+            take_out(i);
+}
+
+static void end_log(void)
+{
+    memcpy(log_bytes + log_length, "\4\0\0", 3);
+    log_length += 3;
+}
+
+/* The same size goes back in where the pool is not fresh, so that it fits. */
+static void write_pair(const struct kind *kind, struct pair *pair)
+{
+    pair->out = draw(0, live - 1);
+    pair->size = kind->live_a_chunk ? draw(kind->low, kind->high) : size_of[pair->out];
+    take_out(pair->out);
+    if (!put(pair->size)) {
+        fprintf(stderr, "replay: a pair of %s does not fit\n", kind->name);
+        exit(2);
+    }
+}
+
+static void write_log(const struct kind *kind, size_t c)
+{
+    static const uint8_t start[4] = {1, 0, 1, 0};
+
+    state = UINT64_C(88172645463325252);
+    live = 0;
+    plain_fresh((unsigned)c);
+    memcpy(log_bytes, start, sizeof start);
+    log_bytes[3] = (uint8_t)c;
+    log_length = sizeof start;
+    fill(kind, c);
+    before_pairs = log_length;
+    live_before_pairs = live;
+    memcpy(sizes_before_pairs, size_of, live * sizeof size_of[0]);
+    for (size_t i = 0; i < PAIRS; i++)
+        write_pair(kind, &pairs[i]);
+    end_log();
+}
+
+/* ---- What is timed ------------------------------------------------------- */
+
+/* The shorter log is cut before the pairs, and is refused 8 there. */
+static void replay(size_t c, size_t length)
+{
+    struct lensember_replayed r = lensember_replay(c, bits, c * BIT_WORDS, words, c * PAGES,
+                                                   slots, c * SLOT_WORDS, log_bytes, length);
+
+    if (r.refusal != (length == log_length ? LENSEMBER_OK : LENSEMBER_CUT_LOG)) {
+        fprintf(stderr, "replay: refused %u at %llu\n", (unsigned)r.refusal, (unsigned long long)r.position);
+        exit(2);
+    }
+}
+
+static void plain(size_t c, size_t length)
+{
+    if (plain_replay((unsigned)c, log_bytes, length) != (length == log_length ? 0 : 8)) {
+        fprintf(stderr, "replay: the plain pool refuses the log\n");
+        exit(2);
+    }
+}
+
+/* Both pools end with the same blocks. */
+static void compare(size_t c)
+{
+    static uint64_t room[2 * MOST_LIVE];
+    uint64_t places, sum = 0;
+    struct lensember_counted n;
+
+    replay(c, log_length);
+    plain(c, log_length);
+    n = lensember_census(c, bits, c * BIT_WORDS, words, c * PAGES, slots, c * SLOT_WORDS,
+                         room, sizeof room / sizeof room[0]);
+    for (size_t i = 0; i < n.count; i++)
+        sum += room[2 * i];
+    if (n.refusal != LENSEMBER_OK || n.count != plain_live(&places) || sum != places) {
+        fprintf(stderr, "replay: the two pools differ\n");
+        exit(2);
+    }
+}
+
+static void keep_shortest(double *best, double start)
+{
+    double took = seconds_now() - start;
+
+    if (took < *best)
+        *best = took;
+}
+
+struct times {
+    double replay, replay_before; /* the whole log, and the log before the pairs */
+    double plain, tuned;
+    double php, malloc;           /* the pairs */
+};
+
+static struct times time_all(size_t c)
+{
+    struct times best = {1e9, 1e9, 1e9, 1e9, 1e9, 1e9};
+
+    for (unsigned i = 0; i < ROUNDS; i++) {
+        double start = seconds_now();
+
+        replay(c, log_length);
+        keep_shortest(&best.replay, start);
+        start = seconds_now();
+        replay(c, before_pairs);
+        keep_shortest(&best.replay_before, start);
+        plain_tune(0);
+        start = seconds_now();
+        plain(c, log_length);
+        keep_shortest(&best.plain, start);
+        plain_tune(1);
+        start = seconds_now();
+        plain(c, log_length);
+        keep_shortest(&best.tuned, start);
+        if (have_php()) {
+            hold_php(sizes_before_pairs, live_before_pairs);
+            start = seconds_now();
+            run_php(pairs, PAIRS, live_before_pairs);
+            keep_shortest(&best.php, start);
+            drop_php(live_before_pairs);
+        }
+        hold_malloc(sizes_before_pairs, live_before_pairs);
+        start = seconds_now();
+        run_malloc(pairs, PAIRS, live_before_pairs);
+        keep_shortest(&best.malloc, start);
+        drop_malloc(live_before_pairs);
+    }
+    return best;
+}
+
+static void print_row(const struct kind *kind, size_t c)
+{
+    struct times t;
+    double fields, pair;
+
+    write_log(kind, c);
+    compare(c);
+    t = time_all(c);
+    fields = (double)(log_length - 7) / 7;
+    pair = (t.replay - t.replay_before) / PAIRS;
+    printf("%-36s %2u %6.1f %7.1f %5.2f %6.1f %5.2f %7.1f", kind->name, (unsigned)c, t.replay / fields * 1e9,
+           t.plain / fields * 1e9, t.replay / t.plain, t.tuned / fields * 1e9, t.replay / t.tuned, pair * 1e9);
+    if (have_php())
+        printf(" %6.1f %5.2f", t.php / PAIRS * 1e9, pair / (t.php / PAIRS));
+    else
+        printf(" %6s %5s", "-", "-");
+    printf(" %6.1f %5.2f\n", t.malloc / PAIRS * 1e9, pair / (t.malloc / PAIRS));
+}
+
+int main(void)
+{
+    printf("%-36s  c  field   plain ratio  tuned ratio    pair    PHP ratio malloc ratio\n", "log");
+    for (size_t k = 0; k < sizeof kinds / sizeof kinds[0]; k++) {
+        print_row(&kinds[k], 1);
+        print_row(&kinds[k], MAX_CHUNKS);
+    }
+    printf("nanoseconds a field, then a pair of a release and a reserve; tuned is the plain pool with side tables\n");
+    return 0;
+}
