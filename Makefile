@@ -1,7 +1,8 @@
 # The archive for C programs, and what is run against it.
 #
-#   make all           proves the library and the replay program, and puts
-#                      build/liblensember.a and build/replay together
+#   make all           proves the library and the programs, and puts
+#                      build/liblensember.a, build/replay, build/map and
+#                      build/paint together
 #   make test          the one test command: proofs, then the host tests
 #   make host-test     the host tests alone: damage, series, replays, seeds,
 #                      program, install
@@ -46,32 +47,29 @@ override CFLAGS += -std=c99 -pedantic
 INCLUDES = -Iinclude -Itests -Ibench
 HEADERS = $(wildcard include/*.h tests/*.h bench/*.h)
 
-# The crate of the replay program.
-PROGRAM_CRATE = replayer
-
 # The library is proved again when any source or proof of it has changed.
 PROVED = crates.txt $(shell find crates -name '*.rt' -o -name '*.antt')
 
-all: $(LIB) $(PROGRAM)
+all: $(LIB) $(PROGRAM) build/map build/paint
 
 build/liblensember.a: $(PROVED)
 	rt staticlib lensember
 	@mkdir -p $(@D)
 	cp target/staticlib/liblensember.a $@
 
-# After the archive, not beside it: rt runs once at a time.
+# The programs come after the archive, and one after the other: rt runs once at
+# a time.
 build/replay: $(PROVED) | $(LIB)
-	rt check $(PROGRAM_CRATE)
+	rt check replayer
 	@mkdir -p $(@D)
-	cp target/bin/$(PROGRAM_CRATE) $@
+	cp target/bin/replayer $@
 
-# The programs that draw: the crate's name, and the file's.
-build/map: $(PROVED) | $(LIB)
+build/map: $(PROVED) | $(PROGRAM)
 	rt check mapper
 	@mkdir -p $(@D)
 	cp target/bin/mapper $@
 
-build/paint: $(PROVED) | $(LIB)
+build/paint: $(PROVED) | build/map
 	rt check painter
 	@mkdir -p $(@D)
 	cp target/bin/painter $@
@@ -202,7 +200,9 @@ editor: build/editor
 
 # What is installed, below PREFIX.
 INSTALLED = include/lensember.h lib/liblensember.a lib/pkgconfig/lensember.pc \
-	bin/lensember-replay share/man/man1/lensember-replay.1 share/man/man3/lensember.3
+	bin/lensember-replay bin/lensember-map bin/lensember-paint \
+	share/man/man1/lensember-replay.1 share/man/man1/lensember-map.1 \
+	share/man/man1/lensember-paint.1 share/man/man3/lensember.3
 ROOT = $(DESTDIR)$(PREFIX)
 
 install: all
@@ -213,7 +213,10 @@ install: all
 		>'$(ROOT)'/lib/pkgconfig/lensember.pc
 	chmod 644 '$(ROOT)'/lib/pkgconfig/lensember.pc
 	install -m 755 $(PROGRAM) '$(ROOT)'/bin/lensember-replay
-	install -m 644 man/lensember-replay.1 '$(ROOT)'/share/man/man1/
+	install -m 755 build/map '$(ROOT)'/bin/lensember-map
+	install -m 755 build/paint '$(ROOT)'/bin/lensember-paint
+	install -m 644 man/lensember-replay.1 man/lensember-map.1 '$(ROOT)'/share/man/man1/
+	install -m 644 man/lensember-map.1 '$(ROOT)'/share/man/man1/lensember-paint.1
 	install -m 644 man/lensember.3 '$(ROOT)'/share/man/man3/
 
 uninstall:

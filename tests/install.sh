@@ -41,10 +41,14 @@ put() {
 # ---- Files ------------------------------------------------------------------
 
 cat >"$work/expected" <<'END'
+755 bin/lensember-map
+755 bin/lensember-paint
 755 bin/lensember-replay
 644 include/lensember.h
 644 lib/liblensember.a
 644 lib/pkgconfig/lensember.pc
+644 share/man/man1/lensember-map.1
+644 share/man/man1/lensember-paint.1
 644 share/man/man1/lensember-replay.1
 644 share/man/man3/lensember.3
 END
@@ -119,7 +123,7 @@ END
             $(flags --libs) -o pool && ./pool)
 }
 
-# ---- The replay program --------------------------------------------------------
+# ---- The programs ----------------------------------------------------------------
 
 # Document 01's log; its lines are those that the gate holds the program to.
 replays_sample() {
@@ -129,6 +133,14 @@ replays_sample() {
 
 replays_nothing() {
     [ "$("$prefix/bin/lensember-replay" </dev/null)" = 'log refused 8 at 0' ]
+}
+
+draws_map() {
+    "$prefix/bin/lensember-map" <examples/map.log | diff crates/mapper/stdout -
+}
+
+paints_picture() {
+    "$prefix/bin/lensember-paint" <examples/map.log | diff crates/painter/stdout -
 }
 
 # ---- Man pages -------------------------------------------------------------------
@@ -155,9 +167,12 @@ check example-first runs_first
 check example-editor runs_editor
 check replay-sample replays_sample
 check replay-nothing replays_nothing
+check map-sample draws_map
+check picture-sample paints_picture
 check man-each-call names_each_call
 if command -v groff >/dev/null 2>&1; then
     check man-program reads_well man1/lensember-replay.1
+    check man-map reads_well man1/lensember-map.1
     check man-library reads_well man3/lensember.3
 else
     echo 'man pages not formatted: there is no groff'
