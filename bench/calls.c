@@ -123,10 +123,7 @@ static void make_half(size_t c)
 
 /* ---- What is timed --------------------------------------------------------- */
 
-/* What a reserve of a row and of a table gives. */
-static struct lensember_reserved next_row, next_table;
-
-/* Puts a block's bits and word back, without a call: so a reserve and a
+/* Puts a block's bits and word down or away, without a call: so a reserve and a
  * release can be timed apart. The run of a slot stands. */
 static void set_slot(const struct lensember_reserved *block, bool taken)
 {
@@ -148,30 +145,48 @@ static void set_run(const struct lensember_reserved *block, bool taken)
     }
 }
 
+static void set_block(const struct lensember_reserved *block, bool taken)
+{
+    if (block->kind == LENSEMBER_SLOT)
+        set_slot(block, taken);
+    else
+        set_run(block, taken);
+}
+
+/* What a reserve of a row and of a table gives. */
+static struct lensember_reserved next_row, next_table;
+
+static uint64_t reserve_only(size_t c, uint64_t size, struct lensember_reserved *next)
+{
+    *next = reserve(c, size);
+    set_block(next, false);
+    return next->refusal;
+}
+
+static uint64_t release_only(size_t c, const struct lensember_reserved *next)
+{
+    set_block(next, true);
+    return release(c, next->place);
+}
+
 static uint64_t reserve_row(size_t c)
 {
-    next_row = reserve(c, ROW);
-    set_slot(&next_row, false);
-    return next_row.refusal;
+    return reserve_only(c, ROW, &next_row);
 }
 
 static uint64_t release_row(size_t c)
 {
-    set_slot(&next_row, true);
-    return release(c, next_row.place);
+    return release_only(c, &next_row);
 }
 
 static uint64_t reserve_table(size_t c)
 {
-    next_table = reserve(c, TABLE);
-    set_run(&next_table, false);
-    return next_table.refusal;
+    return reserve_only(c, TABLE, &next_table);
 }
 
 static uint64_t release_table(size_t c)
 {
-    set_run(&next_table, true);
-    return release(c, next_table.place);
+    return release_only(c, &next_table);
 }
 
 static uint64_t size_row(size_t c)

@@ -85,7 +85,7 @@ static uint64_t size_of(const struct ear *ear, uint64_t place)
 /* Where the block's bytes are. They stay there until it is released. */
 static uint8_t *bytes_of(struct ear *ear, uint64_t place)
 {
-    struct lensember_part part = lensember_bytes(ear->number, CHUNKS, LENT(ear), place,
+    struct lensember_part part = lensember_bytes(CHUNKS, LENT(ear), ear->number, place,
                                                  sizeof left.arena, sizeof right.arena);
 
     must(part.refusal, "bytes");
@@ -305,7 +305,7 @@ static void try_all_calls(struct ear *ear, uint64_t live)
            lensember_next(CHUNKS, LENT(ear), 0).refusal,
            lensember_census(CHUNKS, LENT(ear), room, 2).refusal,
            lensember_totals(CHUNKS, LENT(ear)).refusal,
-           lensember_bytes(ear->number, CHUNKS, LENT(ear), live,
+           lensember_bytes(CHUNKS, LENT(ear), ear->number, live,
                            sizeof left.arena, sizeof right.arena).refusal);
 }
 

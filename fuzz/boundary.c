@@ -319,7 +319,7 @@ static void try_shape(uint64_t c, struct lengths n)
            "release");
     expect(lensember_block_size(c, r.bits, n.bits, r.words, n.words, r.slots, n.slots, 4096).refusal
                == 1, "block size");
-    expect(lensember_bytes(0, c, r.bits, n.bits, r.words, n.words, r.slots, n.slots, 4096,
+    expect(lensember_bytes(c, r.bits, n.bits, r.words, n.words, r.slots, n.slots, 0, 4096,
                            (size_t)(c * CHUNK_BYTES), 0).refusal == 1, "bytes");
     expect(lensember_replay(c, r.bits, n.bits, r.words, n.words, r.slots, n.slots,
                             start, sizeof start).refusal == 1, "replay");

@@ -307,11 +307,11 @@ struct lensember_part {
  *
  * The refusals are checked in this order.
  */
-struct lensember_part lensember_bytes(uint64_t ear, uint64_t c,
+struct lensember_part lensember_bytes(uint64_t c,
                                       const uint64_t *bits, size_t nbits,
                                       const uint32_t *words, size_t nwords,
                                       const uint64_t *slots, size_t nslots,
-                                      uint64_t place,
+                                      uint64_t ear, uint64_t place,
                                       size_t nleft, size_t nright);
 
 /*

@@ -58,5 +58,5 @@ struct lensember_printed library_lines(const struct records *r, const uint8_t *l
 struct lensember_part library_bytes(uint64_t ear, const struct records *r, uint64_t place,
                                     size_t nleft, size_t nright)
 {
-    return lensember_bytes(ear, r->c, LENT(r), place, nleft, nright);
+    return lensember_bytes(r->c, LENT(r), ear, place, nleft, nright);
 }

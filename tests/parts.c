@@ -253,8 +253,8 @@ void expect_part_refuses(uint64_t number, uint64_t c, const struct records *r, s
     for (uint64_t ear = 0; ear <= 2; ear++) {
         for (size_t i = 0; i < COUNT(places); i++) {
             struct lensember_part part =
-                lensember_bytes(ear, c, r->bits, n.bits, r->words, n.words, r->slots, n.slots,
-                                places[i], arena, arena);
+                lensember_bytes(c, r->bits, n.bits, r->words, n.words, r->slots, n.slots,
+                                ear, places[i], arena, arena);
             group.trials++;
             expect(part.refusal == (ear == 2 ? 1 : number) && part.start == 0 && part.size == 0,
                    "bytes, ear %" PRIu64 " c %" PRIu64 " place %" PRIu64 ": %" PRIu64, ear, c,

@@ -479,35 +479,20 @@ static void expect_replays_refuse(uint64_t c, const struct records *r, struct le
     expect(memcmp(out, out_before, sizeof out) == 0, "refused lines were written");
 }
 
-static void expect_shape_refused(uint64_t c, struct lengths n)
+static void expect_shape_refused(uint64_t c, const struct records *r, struct lengths n)
 {
-    struct records r = shelf_records(&shelf, 0);
-
-    shelf_before = shelf;
-    expect_replays_refuse(c, &r, n);
-    expect_part_refuses(1, c, &r, n);
-    expect(memcmp(&shelf, &shelf_before, sizeof shelf) == 0,
-           "changed, c %" PRIu64 " with %zu %zu %zu", c, n.bits, n.words, n.slots);
-    shelf = shelf_before;
+    expect_replays_refuse(c, r, n);
+    expect_part_refuses(1, c, r, n);
 }
 
-/* An empty buffer's pointer need only be non-null and aligned. */
-static void test_empty_buffers(void)
+/* An empty log and no room for lines: their pointers need only be non-null. */
+static void test_empty_log(void)
 {
-    static const uint64_t counts[] = {0, 1, 16, UINT64_C(1) << 61};
-    struct records nowhere = {0, (uint64_t *)(uintptr_t)8, (uint32_t *)(uintptr_t)4,
-                              (uint64_t *)(uintptr_t)8};
     struct records r = lent_new(1), right = lent_new(1);
     uint8_t *anywhere = (uint8_t *)(uintptr_t)1;
     struct lensember_replayed replayed;
     struct lensember_printed printed;
 
-    group_begin("refused-1", "empty-buffers-nowhere");
-    for (size_t i = 0; i < COUNT(counts); i++) {
-        expect_replays_refuse(counts[i], &nowhere, exact_lengths(0));
-        expect_part_refuses(1, counts[i], &nowhere, exact_lengths(0));
-    }
-    group_end();
     group_begin("log", "empty-log-and-lines-nowhere");
     replayed = library_replay(&r, anywhere, 0);
     printed = library_lines(&r, anywhere, 0, anywhere, 0);
@@ -649,9 +634,8 @@ int main(int argc, char **argv)
     test_vast_logs();
     test_series();
     test_parts();
-    try_bad_shapes("sound-records", shelf_fill_sound, expect_shape_refused);
-    try_bad_shapes("damaged-records", shelf_fill_random, expect_shape_refused);
-    test_empty_buffers();
+    try_bad_shapes(expect_shape_refused);
+    test_empty_log();
     test_damaged_records();
     test_enough();
     return program_end("replays");

@@ -882,28 +882,9 @@ static void expect_calls_refuse(uint64_t number, uint64_t c, const struct record
     expect_readers_refuse(number, c, r, n);
 }
 
-static void expect_shape_refused(uint64_t c, struct lengths n)
+static void expect_shape_refused(uint64_t c, const struct records *r, struct lengths n)
 {
-    struct records r = shelf_records(&shelf, 0);
-
-    shelf_before = shelf;
-    expect_calls_refuse(1, c, &r, n);
-    expect(memcmp(&shelf, &shelf_before, sizeof shelf) == 0,
-           "changed, c %" PRIu64 " with %zu %zu %zu", c, n.bits, n.words, n.slots);
-    shelf = shelf_before;
-}
-
-/* An empty buffer's pointer need only be non-null and aligned. */
-static void test_empty_buffers(void)
-{
-    static const uint64_t counts[] = {0, 1, 16, UINT64_C(1) << 61};
-    struct records nowhere = {0, (uint64_t *)(uintptr_t)8, (uint32_t *)(uintptr_t)4,
-                              (uint64_t *)(uintptr_t)8};
-
-    group_begin("refused-1", "empty-buffers-nowhere");
-    for (size_t i = 0; i < COUNT(counts); i++)
-        expect_calls_refuse(1, counts[i], &nowhere, exact_lengths(0));
-    group_end();
+    expect_calls_refuse(1, c, r, n);
 }
 
 /* A call on the damaged pool; a live block of the sound one is tried too. */
@@ -947,9 +928,7 @@ static void test_all(void)
     test_hostile_places();
     test_page_0();
     test_readers();
-    try_bad_shapes("sound-records", shelf_fill_sound, expect_shape_refused);
-    try_bad_shapes("damaged-records", shelf_fill_random, expect_shape_refused);
-    test_empty_buffers();
+    try_bad_shapes(expect_shape_refused);
     test_damaged_records();
 }
 

@@ -17,7 +17,6 @@ extern struct shelf shelf, shelf_before;
 
 struct records shelf_records(struct shelf *s, size_t c);
 void shelf_fill_random(void); /* everything, guards too */
-void shelf_fill_sound(void);  /* sound records for every count of chunks up to 18 */
 
 struct lengths {
     size_t bits, words, slots;
@@ -25,13 +24,15 @@ struct lengths {
 
 struct lengths exact_lengths(size_t c);
 
-/* A trial on the shelf, lent with a chunk count and lengths that do not fit. */
-typedef void shape_trial(uint64_t c, struct lengths n);
+/* A trial of calls on records that are lent with a chunk count or lengths that
+ * do not fit. That nothing lent, nor around it, changes is seen to here. */
+typedef void shape_trial(uint64_t c, const struct records *r, struct lengths n);
 
-void try_bad_counts(shape_trial *try_it);
-void try_bad_lengths(shape_trial *try_it);
-
-/* Both, each a group of refusals 1, on records that `fill` puts on the shelf. */
-void try_bad_shapes(const char *records, void (*fill)(void), shape_trial *try_it);
+/*
+ * All of them, each kind a group of refusals 1: wrong chunk counts and wrong
+ * lengths, on sound and on damaged records, and empty buffers, whose pointers
+ * need only be non-null and aligned.
+ */
+void try_bad_shapes(shape_trial *try_it);
 
 #endif

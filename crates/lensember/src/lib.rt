@@ -177,11 +177,11 @@ pub extern "C" fn lensember_totals(
 // Document 01's bytes, by the lengths of both arenas: where the part lies in the chosen one. A slice cannot be handed back to C.
 #[no_mangle]
 pub extern "C" fn lensember_bytes(
-    ear: u64,
     c: u64,
     bits: &[u64],
     words: &[u32],
     slots: &[u64],
+    ear: u64,
     place: u64,
     nleft: usize,
     nright: usize,
