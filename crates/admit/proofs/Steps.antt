@@ -9,7 +9,9 @@ use native.Mathlib.Decide.{decLe, decLt, ℕ-discrete}
 use native.Mathlib.Omega.{arith}
 use lib.Dec.{eqb}
 use Rattle.classes.proofs.ClassLaws.{any-row}
-use Rattle.records.specs.Kinds.{Kind, free, damaged, inner, kindOf, zeros, behind, innerWords, slotsOf, class}
+use Rattle.records.specs.declared.Kind.{Kind}
+use Rattle.records.specs.declared.Kind.the-variants.{Free, Damaged, Class, Inner}
+use Rattle.records.specs.Kinds.{kindOf, zeros, behind, innerWords, slotsOf}
 use Rattle.records.specs.Sound.{step}
 use Rattle.records.proofs.Flags.{cond-eq, cond-ne, eq-cases, lt-cases, le-cases}
 use Rattle.records.proofs.KindLaws.{kind-inner, kind-zero, kind-class, kind-large, kind-no-class, kind-no-large, kind-no-low}
@@ -42,7 +44,7 @@ pub ready-none : Ready 0 0
 ready-none = record { near = omega arith; inner = λ n. absurd (n refl) }
 
 -- a page inside a run
-inner-kind : (left d : ℕ) → Ready left d → kindOf false true d ≡ inner d
+inner-kind : (left d : ℕ) → Ready left d → kindOf false true d ≡ Inner d
 inner-kind left d r = by-cases (ℕ-discrete d 0) (λ e. kind-zero d e) (λ e. kind-inner d (r .inner e))
 
 ready-after : (left d x : ℕ) → Ready left d → left ≢ 0 → x ≡ after d → Ready (left - 1) x
@@ -70,7 +72,7 @@ run-other x xs w n =
 
 -- between runs: a free page's word that is not 0, and taken pages that begin nothing
 idle-free-bad : (w : ℕ) → w ≢ 0 → step [] (kindOf false false w) ≡ none
-idle-free-bad w h = ap (step []) (cond-ne w 0 free damaged h)
+idle-free-bad w h = ap (step []) (cond-ne w 0 Free Damaged h)
 
 idle-none : (w : ℕ) → (0x80000000 ≤ w → w < 0x8000001E → ⊥) → (0x40000001 ≤ w → w < 0x40000200 → ⊥) → step [] (kindOf false true w) ≡ none
 idle-none w n m =
@@ -132,15 +134,15 @@ module _ (ss : List ℕ) (g left due w : ℕ) (x : ℕ) where
 
   pub is-free : left ≡ 0 → w ≡ 0 → eqb x 0 ≡ slotsClear ss g 0 → Paged ss g left due w false true 0 0 x
   unfolding coming
-  is-free l e c = begun false free 0 0 l (cond-eq w 0 free damaged e) refl c ready-none
+  is-free l e c = begun false Free 0 0 l (cond-eq w 0 Free Damaged e) refl c ready-none
 
   pub is-class : (rest : ℕ) → left ≡ 0 → 0x80000000 ≤ w → w < 0x8000001E → rest ≡ behind (w - 0x80000000)
-      → eqb x 0 ≡ slotsClear ss g (slotsOf (class (w - 0x80000000))) → Paged ss g left due w true true rest (w + 0x40010000) x
+      → eqb x 0 ≡ slotsClear ss g (slotsOf (Class (w - 0x80000000))) → Paged ss g left due w true true rest (w + 0x40010000) x
   unfolding behind
   is-class rest l a b e c =
       let q : 0xC0000000 + 65536 * 1 + (w - 0x80000000) ≡ w + 0x40010000 = omega arith in
       let f = any-row (w - 0x80000000) .pages-most in
-      begun true (class (w - 0x80000000)) rest (w + 0x40010000) l (kind-class w a b)
+      begun true (Class (w - 0x80000000)) rest (w + 0x40010000) l (kind-class w a b)
       (ap some (coming-words (w - 0x80000000) 1 (behind (w - 0x80000000)) ∙ ap₂ coming q (sym e))) c
       (record { near = omega arith; inner = λ m. omega arith })
 
@@ -152,14 +154,14 @@ module _ (ss : List ℕ) (g left due w : ℕ) (x : ℕ) where
   pub is-inner : (d : ℕ) → Ready left due → left ≢ 0 → w ≡ due → eqb x 0 ≡ slotsClear ss g 0 → d ≡ after due → Paged ss g left due w true true (left - 1) d x
   unfolding outcome coming
   is-inner d r l e c f =
-      let k : kindOf false true w ≡ inner due = ap (kindOf false true) e ∙ inner-kind left due r in
+      let k : kindOf false true w ≡ Inner due = ap (kindOf false true) e ∙ inner-kind left due r in
       record {
         moves = sym (ap (step (coming due left)) k ∙ go left l);
         strays = λ h. c ∙ ap (λ (q : Kind). slotsClear ss g (slotsOf q)) (sym k);
         ready = ready-after left due d r l f;
       }
     where
-      go : (n : ℕ) → n ≢ 0 → step (coming due n) (inner due) ≡ some (coming d (n - 1))
+      go : (n : ℕ) → n ≢ 0 → step (coming due n) (Inner due) ≡ some (coming d (n - 1))
       go zero l = absurd (l refl)
       go (suc n) l = let r : suc n - 1 ≡ n = omega arith in rw r (cond-eq due due _ _ refl ∙ ap (λ (y : ℕ). some (coming y n)) (sym f))
 

@@ -15,7 +15,9 @@ use lib.Pow.{shr-shr}
 use borrow.Author.Tests.{eq-eqb, ne-eqb, eqb-true}
 use Rattle.bitrow.specs.Row.{bit, bitAt, isSet}
 use Rattle.bitrow.proofs.Words.{bit-of-zero}
-use Rattle.records.specs.Kinds.{Kind, edge, free, damaged, large, kindOf, slotsOf}
+use Rattle.records.specs.declared.Kind.{Kind}
+use Rattle.records.specs.declared.Kind.the-variants.{Edge, Free, Damaged, Large}
+use Rattle.records.specs.Kinds.{kindOf, slotsOf}
 use Rattle.records.specs.Pool.{Pool, isEdge, kindAt}
 use Rattle.records.specs.Sound.{clean, step, follow, soundFrom, sound}
 use Rattle.records.specs.Calls.{fit, admitOf}
@@ -63,13 +65,13 @@ unfolding coming
 edge-as false t w left due h = (refl, refl)
 edge-as true true w left due h =
     let (l, e) = h refl in
-    let k : kindOf true true w ≡ edge = cond-eq w 0x40000001 edge damaged e in
+    let k : kindOf true true w ≡ Edge = cond-eq w 0x40000001 Edge Damaged e in
     let z : w - 0x40000001 ≡ 0 = omega arith in
-    let q : kindOf false true w ≡ large 0 = kind-large w (omega arith) (omega arith) ∙ ap large z in
+    let q : kindOf false true w ≡ Large 0 = kind-large w (omega arith) (omega arith) ∙ ap Large z in
     (ap₂ (λ (n : ℕ) (x : Kind). step (coming due n) x) l k ∙ sym (ap₂ (λ (n : ℕ) (x : Kind). step (coming due n) x) l q), ap slotsOf k ∙ sym (ap slotsOf q))
 edge-as true false w left due h =
     let (l, e) = h refl in
-    let q : kindOf false false w ≡ damaged = cond-ne w 0 free damaged (omega arith) in
+    let q : kindOf false false w ≡ Damaged = cond-ne w 0 Free Damaged (omega arith) in
     (ap (step (coming due left)) (sym q), sym (ap slotsOf q))
 
 -- page g, whose word and bit were read
@@ -191,7 +193,7 @@ walked-done {p} {i} {left} {due} {q} {l} {d} {acc} {bw} h e =
 -- a chunk's page 0 is wrong
 no-edge : (due n : ℕ) (t : Bool) (w : ℕ) → (n ≡ 0 → w ≡ 0x40000001 → ⊥) → step (coming due n) (kindOf true t w) ≡ none
 unfolding coming
-no-edge due zero true w f = ap (step []) (cond-ne w 0x40000001 edge damaged (f refl))
+no-edge due zero true w f = ap (step []) (cond-ne w 0x40000001 Edge Damaged (f refl))
 no-edge due zero false w f = refl
 no-edge due (suc n) true w f = eq-cases (λ (k : Kind). step (coming due (suc n)) k ≡ none) w 0x40000001 (λ a. refl) (λ a. refl)
 no-edge due (suc n) false w f = refl
@@ -224,9 +226,9 @@ free-word : (w : ℕ) → (step [] (kindOf false false w) ≡ outcome (eqb w 0) 
 unfolding outcome
 free-word w =
     by-cases (ℕ-discrete w 0)
-    (λ e. let k : kindOf false false w ≡ free = cond-eq w 0 free damaged e in
+    (λ e. let k : kindOf false false w ≡ Free = cond-eq w 0 Free Damaged e in
     (ap (step []) k ∙ ap (λ (v : Bool). outcome v []) (sym (eq-eqb w 0 e)), ap slotsOf k))
-    (λ e. let k : kindOf false false w ≡ damaged = cond-ne w 0 free damaged e in
+    (λ e. let k : kindOf false false w ≡ Damaged = cond-ne w 0 Free Damaged e in
     (ap (step []) k ∙ ap (λ (v : Bool). outcome v []) (sym (ne-eqb w 0 e)), ap slotsOf k))
 
 -- a page with the bit 0, not page 0 of its chunk

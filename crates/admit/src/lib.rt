@@ -5,7 +5,8 @@ ghost use mathlib.Core.List.{[]};
 ghost use Prim.Native.Nat.{_+_, _*_, _%_, _<_, _≤_};
 ghost use lib.Dec.{eqb};
 ghost use lib.ListN.{length, getD};
-ghost use Rattle.records.specs.Kinds.{class, slotsOf};
+ghost use Rattle.records.specs.declared.Kind.the-variants.{Class};
+ghost use Rattle.records.specs.Kinds.{slotsOf};
 ghost use Rattle.records.specs.Pool.{pool};
 ghost use Rattle.records.specs.Sound.{soundFrom};
 ghost use Rattle.records.specs.Calls.{admitOf};
@@ -47,7 +48,7 @@ fn any_slot(slots: &[u64], g: usize) -> u64
 // 0 when page g has no slot bit that names no slot of class b.
 fn stray_slot(slots: &[u64], g: usize, masks: &[u64; 240], b: usize) -> u64
     requires { ⌜ (g < 8192) × (8 * g + 8 ≤ length (now slots)) × (b < 30) × (now masks ≡ maskTable) ⌝ }
-    ensures { λ r. ⌜ eqb r 0 ≡ slotsClear (now (slots .entry)) g (slotsOf (class b)) ⌝ }
+    ensures { λ r. ⌜ eqb r 0 ≡ slotsClear (now (slots .entry)) g (slotsOf (Class b)) ⌝ }
 {
     let i = 8 * g;
     let m = 8 * b;

@@ -10,7 +10,9 @@ use native.Mathlib.Omega.{arith}
 use lib.ListN.{length}
 use Rattle.classes.specs.Classes.{size, slots}
 use Rattle.classes.proofs.ClassLaws.{any-row}
-use Rattle.records.specs.Kinds.{Kind, edge, free, damaged, large, class, inner, behind}
+use Rattle.records.specs.declared.Kind.{Kind}
+use Rattle.records.specs.declared.Kind.the-variants.{Edge, Free, Damaged, Large, Class, Inner}
+use Rattle.records.specs.Kinds.{behind}
 use Rattle.records.specs.Pool.{Pool, kindAt, slotAt}
 use Rattle.records.specs.Sound.{step}
 use Rattle.records.specs.Runs.{spanOf}
@@ -67,16 +69,16 @@ slots-rising t g b s (suc n) l =
 -- the words that are due are those of pages of a run that began before: no block begins there
 page-rising : (t : ℕ → Bool) (g : ℕ) (st : List ℕ) (k : Kind) (due : List ℕ) → step st k ≡ some due
     → Rising (4096 * (g + length st)) (blocksAt g k t) (4096 * (suc g + length due))
-page-rising t g [] edge due e = rising-stop (omega arith)
-page-rising t g [] free due e = rising-stop (omega arith)
-page-rising t g [] damaged due e = absurd (Option·none-ne-some due e)
-page-rising t g [] (large k) due e =
-    let l = begins-run (large k) due e (omega arith) in rising-next (omega arith) (omega arith) (rising-stop (omega arith))
-page-rising t g [] (class b) due e =
-    let l = begins-run (class b) due e (omega arith) in
+page-rising t g [] Edge due e = rising-stop (omega arith)
+page-rising t g [] Free due e = rising-stop (omega arith)
+page-rising t g [] Damaged due e = absurd (Option·none-ne-some due e)
+page-rising t g [] (Large k) due e =
+    let l = begins-run (Large k) due e (omega arith) in rising-next (omega arith) (omega arith) (rising-stop (omega arith))
+page-rising t g [] (Class b) due e =
+    let l = begins-run (Class b) due e (omega arith) in
     let f = slots-fit b in
     rising-widen (omega arith) (omega arith) (slots-rising t g b 0 (slots b) (omega arith))
-page-rising t g [] (inner w) due e = absurd (Option·none-ne-some due e)
+page-rising t g [] (Inner w) due e = absurd (Option·none-ne-some due e)
 page-rising t g (w ∷ ws) k due e =
     let (p, q) = step-inner w ws k due e in
     let l : length due ≡ length ws = ap length q in
@@ -127,15 +129,15 @@ slot-within g b s l = let f = slots-fit b in let m = mul-le-mul-right (size b) l
 
 -- the blocks that begin in a run lie in its pages
 run-within : {b : Block} (g : ℕ) (k : Kind) (t : ℕ → Bool) → List·Memᴰ b (blocksAt g k t) → Within b g (spanOf k)
-run-within g edge t m = absurd (List·Memᴰ·not-nil m)
-run-within g free t m = absurd (List·Memᴰ·not-nil m)
-run-within g damaged t m = absurd (List·Memᴰ·not-nil m)
-run-within g (large k) t m =
+run-within g Edge t m = absurd (List·Memᴰ·not-nil m)
+run-within g Free t m = absurd (List·Memᴰ·not-nil m)
+run-within g Damaged t m = absurd (List·Memᴰ·not-nil m)
+run-within g (Large k) t m =
     subst (λ (x : Block). Within x g (suc k)) (sym (List·Memᴰ·eq-of-singleton m)) (record { low = omega arith; high = omega arith })
-run-within g (class a) t m =
+run-within g (Class a) t m =
     let (s, x, l, y) = flat-from (λ s. when (t s) (slotBlock g a s)) 0 (slots a) m in
     subst (λ (x : Block). Within x g (suc (behind a))) (sym (when-from (t s) (slotBlock g a s) y)) (slot-within g a s (omega arith))
-run-within g (inner w) t m = absurd (List·Memᴰ·not-nil m)
+run-within g (Inner w) t m = absurd (List·Memᴰ·not-nil m)
 
 pub live-off : (c : ℕ) (p : Pool) → Good c p → (b : Block) → List·Memᴰ b (live c p)
     → (q : ℕ) → b .place ≤ q → q < b .place + b .size → q / 4096 % 512 ≢ 0

@@ -8,7 +8,8 @@ use native.Mathlib.Decide.{ℕ-discrete}
 use native.Mathlib.Omega.{arith}
 use Rattle.classes.specs.Classes.{slots}
 use Rattle.classes.proofs.ClassLaws.{any-row}
-use Rattle.records.specs.Kinds.{Kind, edge, free, damaged, large, class, inner}
+use Rattle.records.specs.declared.Kind.{Kind}
+use Rattle.records.specs.declared.Kind.the-variants.{Edge, Free, Damaged, Large, Class, Inner}
 use Rattle.blocks.specs.Blocks.{Block, slotBlock, flat, when, blocksAt, Ins, here, there}
 
 ins-front : (b : Block) (a : List Block) {l l′ : List Block} → Ins b l l′ → Ins b (a ++ l) (a ++ l′)
@@ -73,12 +74,12 @@ flat-ins f f′ b k g (suc n) h l i e = go (ℕ-discrete g k) (flat-ins f f′ b
 
 -- a page's blocks are read from its 512 slot bits alone
 pub blocks-same : (g : ℕ) (k : Kind) (t t′ : ℕ → Bool) → ((s : ℕ) → s < 512 → t s ≡ t′ s) → blocksAt g k t ≡ blocksAt g k t′
-blocks-same g edge t t′ h = refl
-blocks-same g free t t′ h = refl
-blocks-same g damaged t t′ h = refl
-blocks-same g (large k) t t′ h = refl
-blocks-same g (class b) t t′ h =
+blocks-same g Edge t t′ h = refl
+blocks-same g Free t t′ h = refl
+blocks-same g Damaged t t′ h = refl
+blocks-same g (Large k) t t′ h = refl
+blocks-same g (Class b) t t′ h =
     let few = any-row b .slots-most in
     flat-same (λ s. when (t s) (slotBlock g b s)) (λ s. when (t′ s) (slotBlock g b s)) 0 (slots b)
     (λ s a l. ap (λ (v : Bool). when v (slotBlock g b s)) (h s (omega arith)))
-blocks-same g (inner w) t t′ h = refl
+blocks-same g (Inner w) t t′ h = refl

@@ -13,7 +13,9 @@ use lib.ListN.{length, getD}
 use borrow.Author.Tests.{lt-ltb}
 use Rattle.classes.specs.Classes.{slots}
 use Rattle.classes.proofs.ClassLaws.{any-row}
-use Rattle.records.specs.Kinds.{Kind, free, class, inner, slotsOf}
+use Rattle.records.specs.declared.Kind.{Kind}
+use Rattle.records.specs.declared.Kind.the-variants.{Free, Class, Inner}
+use Rattle.records.specs.Kinds.{slotsOf}
 use Rattle.records.specs.Pool.{Pool, kindAt, slotAt}
 use Rattle.records.specs.Sound.{all, named, clean, step, sound}
 use Rattle.records.specs.Calls.{fit}
@@ -72,16 +74,16 @@ pub record RunFlip (c : ℕ) (p q : Pool) (g n : ℕ) (head : Kind) (ws : List �
   pub begins : Begins head
   pub long : length ws ≡ n
   pub fits : g + suc n ≤ 512 * c
-  pub were : (i : ℕ) → g ≤ i → i < g + suc n → kindAt p i ≡ free
+  pub were : (i : ℕ) → g ≤ i → i < g + suc n → kindAt p i ≡ Free
   pub first : kindAt q g ≡ head
-  pub rest : (i : ℕ) → i < n → kindAt q (suc g + i) ≡ inner (getD ws i 0)
+  pub rest : (i : ℕ) → i < n → kindAt q (suc g + i) ≡ Inner (getD ws i 0)
   pub others : (i : ℕ) → (i < g) ⊎ (g + suc n ≤ i) → kindAt p i ≡ kindAt q i
   pub same : (i s : ℕ) → slotAt p i s ≡ slotAt q i s
   -- no slot is taken at the run's first page
   pub idle : (s : ℕ) → s < 512 → slotAt p g s ≡ false
 
 module _ {c : ℕ} {p q : Pool} {g n : ℕ} {head : Kind} {ws : List ℕ} (f : RunFlip c p q g n head ws) where
-  were-free : kindAt p g ≡ free
+  were-free : kindAt p g ≡ Free
   were-free = f .were g (omega arith) (omega arith)
 
   -- the walks from page g on
@@ -103,7 +105,7 @@ module _ {c : ℕ} {p q : Pool} {g n : ℕ} {head : Kind} {ws : List ℕ} (f : R
       (λ j a d. f .others j (inl d))
 
   -- what does not tell a free page from one inside a run does not tell the other pages of p and q apart
-  elsewhere : {A : Type 0} (F : Kind → A) → ((w : ℕ) → F free ≡ F (inner w)) → (i : ℕ) → i ≢ g → F (kindAt p i) ≡ F (kindAt q i)
+  elsewhere : {A : Type 0} (F : Kind → A) → ((w : ℕ) → F Free ≡ F (Inner w)) → (i : ℕ) → i ≢ g → F (kindAt p i) ≡ F (kindAt q i)
   elsewhere F h i d =
       by-cases (decLt i g) (λ a. ap F (f .others i (inl a)))
       (λ a. by-cases (decLe (g + suc n) i) (λ b. ap F (f .others i (inr b)))
@@ -147,7 +149,7 @@ module _ {c : ℕ} {p q : Pool} {g n : ℕ} {head : Kind} {ws : List ℕ} (f : R
 pub record SlotFlip (c : ℕ) (p q : Pool) (g b s : ℕ) : Type 0 where
   pub shape : fit c p ≡ fit c q
   pub inside : g < 512 * c
-  pub run : kindAt p g ≡ class b
+  pub run : kindAt p g ≡ Class b
   pub slot : s < slots b
   pub kinds : (i : ℕ) → kindAt p i ≡ kindAt q i
   pub was : slotAt p g s ≡ false

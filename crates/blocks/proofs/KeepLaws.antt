@@ -12,7 +12,9 @@ use lib.ListN.{length, getD}
 use borrow.Author.Tests.{ltb-true}
 use Rattle.classes.specs.Classes.{slots}
 use Rattle.classes.proofs.ClassLaws.{any-row, row-facts}
-use Rattle.records.specs.Kinds.{Kind, free, large, class, inner, kindOf, zeros, behind, innerWords, wordsOf, slotsOf}
+use Rattle.records.specs.declared.Kind.{Kind}
+use Rattle.records.specs.declared.Kind.the-variants.{Free, Large, Class, Inner}
+use Rattle.records.specs.Kinds.{kindOf, zeros, behind, innerWords, wordsOf, slotsOf}
 use Rattle.records.specs.Pool.{Pool, kindAt, slotAt}
 use Rattle.records.specs.Sound.{named, clean, step}
 use Rattle.records.specs.Calls.{fit, admitOf, Left, freshPool, freshOf}
@@ -47,10 +49,10 @@ bare p g e z s l =
     go false x = refl
 
 -- a page that begins a run is none inside a run
-large-begins : (k : ℕ) → Begins (large k)
+large-begins : (k : ℕ) → Begins (Large k)
 large-begins k w ws t x = Option·none-ne-some t x
 
-class-begins : (b : ℕ) → Begins (class b)
+class-begins : (b : ℕ) → Begins (Class b)
 class-begins b w ws t x = Option·none-ne-some t x
 
 module _ (c : ℕ) (p : Pool) (h : Good c p) where
@@ -72,8 +74,8 @@ module _ (c : ℕ) (p : Pool) (h : Good c p) where
 
   -- free pages get a run
   take-run : (g n w : ℕ) (head : Kind) (ws : List ℕ) → step [] head ≡ some ws → Begins head → length ws ≡ n → kindOf false true w ≡ head
-      → ((k : ℕ) → k < n → kindOf false true (getD ws k 0) ≡ inner (getD ws k 0)) → g + suc n ≤ 512 * c
-      → ((i : ℕ) → g ≤ i → i < g + suc n → kindAt p i ≡ free) → RunFlip c p (putRun 1 p g (w ∷ ws)) g n head ws
+      → ((k : ℕ) → k < n → kindOf false true (getD ws k 0) ≡ Inner (getD ws k 0)) → g + suc n ≤ 512 * c
+      → ((i : ℕ) → g ≤ i → i < g + suc n → kindAt p i ≡ Free) → RunFlip c p (putRun 1 p g (w ∷ ws)) g n head ws
   take-run g n w head ws o b len e f fits were =
       record {
         shape = run-fit c 1 p g (w ∷ ws);
@@ -104,7 +106,7 @@ module _ (c : ℕ) (p : Pool) (h : Good c p) where
       let (a, f) = walk-found (kindAt p) ws (suc g) m (subst (λ (u : List ℕ). walk (kindAt p) u (suc g) m ≡ true) z (s .walks)) in
       made (omega arith) (λ i x. f i (omega arith))
     where
-      made : g + suc n ≤ 512 * c → ((i : ℕ) → i < n → kindAt p (suc g + i) ≡ inner (getD ws i 0))
+      made : g + suc n ≤ 512 * c → ((i : ℕ) → i < n → kindAt p (suc g + i) ≡ Inner (getD ws i 0))
           → RunFlip c (putRun 0 p g (zeros (suc n))) p g n head ws
       made fits rest =
           let many = length-zeros (suc n) in
@@ -132,26 +134,26 @@ module _ (c : ℕ) (p : Pool) (h : Good c p) where
               let r : i ≡ suc g + (i - suc g) = omega arith in
               subst Mid (sym (ap (kindAt p) r ∙ rest (i - suc g) (omega arith))) tt)
 
-  pub take-large : (g k : ℕ) → k < 511 → g + suc k ≤ 512 * c → ((i : ℕ) → g ≤ i → i < g + suc k → kindAt p i ≡ free)
-      → RunFlip c p (putRun 1 p g (wordsOf (large k))) g k (large k) (zeros k)
+  pub take-large : (g k : ℕ) → k < 511 → g + suc k ≤ 512 * c → ((i : ℕ) → g ≤ i → i < g + suc k → kindAt p i ≡ Free)
+      → RunFlip c p (putRun 1 p g (wordsOf (Large k))) g k (Large k) (zeros k)
   take-large g k l fits were =
-      take-run g k (0x40000000 + suc k) (large k) (zeros k) refl (large-begins k) (length-zeros k)
-      (kind-large (0x40000000 + suc k) (omega arith) (omega arith) ∙ ap large (omega arith))
+      take-run g k (0x40000000 + suc k) (Large k) (zeros k) refl (large-begins k) (length-zeros k)
+      (kind-large (0x40000000 + suc k) (omega arith) (omega arith) ∙ ap Large (omega arith))
       (λ i x. kind-zero (getD (zeros k) i 0) (getD-zeros k i)) fits were
 
-  pub free-large : (g k : ℕ) → g < 512 * c → kindAt p g ≡ large k → RunFlip c (putRun 0 p g (zeros (suc k))) p g k (large k) (zeros k)
-  free-large g k l e = give-run g k (large k) (zeros k) refl (large-begins k) (length-zeros k) tt l e (idle-at g l (ap slotsOf e))
+  pub free-large : (g k : ℕ) → g < 512 * c → kindAt p g ≡ Large k → RunFlip c (putRun 0 p g (zeros (suc k))) p g k (Large k) (zeros k)
+  free-large g k l e = give-run g k (Large k) (zeros k) refl (large-begins k) (length-zeros k) tt l e (idle-at g l (ap slotsOf e))
 
-  pub put-large : (g k : ℕ) → k < 511 → g + suc k ≤ 512 * c → ((i : ℕ) → g ≤ i → i < g + suc k → kindAt p i ≡ free)
-      → Gains c p (putRun 1 p g (wordsOf (large k))) (runBlock g k)
+  pub put-large : (g k : ℕ) → k < 511 → g + suc k ≤ 512 * c → ((i : ℕ) → g ≤ i → i < g + suc k → kindAt p i ≡ Free)
+      → Gains c p (putRun 1 p g (wordsOf (Large k))) (runBlock g k)
   put-large g k l fits were = let f = take-large g k l fits were in gains (run-alike f) (run-ins f (runBlock g k) here) h
 
-  pub give-large : (g k : ℕ) → g < 512 * c → kindAt p g ≡ large k → Loses c p (putRun 0 p g (zeros (suc k))) (runBlock g k)
+  pub give-large : (g k : ℕ) → g < 512 * c → kindAt p g ≡ Large k → Loses c p (putRun 0 p g (zeros (suc k))) (runBlock g k)
   give-large g k l e = let f = free-large g k l e in loses (run-alike f) (run-ins f (runBlock g k) here) h
 
   -- ---- slots
 
-  pub put-slot : (g b s : ℕ) → g < 512 * c → kindAt p g ≡ class b → s < slots b → slotAt p g s ≡ false
+  pub put-slot : (g b s : ℕ) → g < 512 * c → kindAt p g ≡ Class b → s < slots b → slotAt p g s ≡ false
       → Gains c p (putSlot 1 p g s) (slotBlock g b s)
   put-slot g b s l e n z =
       let few = any-row b .slots-most in
@@ -168,7 +170,7 @@ module _ (c : ℕ) (p : Pool) (h : Good c p) where
       } in
       gains (slot-alike f) (slot-ins f) h
 
-  pub give-slot : (g b s : ℕ) → g < 512 * c → kindAt p g ≡ class b → s < slots b → slotAt p g s ≡ true
+  pub give-slot : (g b s : ℕ) → g < 512 * c → kindAt p g ≡ Class b → s < slots b → slotAt p g s ≡ true
       → Loses c p (putSlot 0 p g s) (slotBlock g b s)
   give-slot g b s l e n z =
       let few = any-row b .slots-most in
@@ -187,19 +189,19 @@ module _ (c : ℕ) (p : Pool) (h : Good c p) where
 
   -- ---- a new run of a class
 
-  pub take-class : (g b : ℕ) → b < 30 → g + suc (behind b) ≤ 512 * c → ((i : ℕ) → g ≤ i → i < g + suc (behind b) → kindAt p i ≡ free)
-      → RunFlip c p (putRun 1 p g (wordsOf (class b))) g (behind b) (class b) (innerWords b 1 (behind b))
+  pub take-class : (g b : ℕ) → b < 30 → g + suc (behind b) ≤ 512 * c → ((i : ℕ) → g ≤ i → i < g + suc (behind b) → kindAt p i ≡ Free)
+      → RunFlip c p (putRun 1 p g (wordsOf (Class b))) g (behind b) (Class b) (innerWords b 1 (behind b))
   take-class g b l fits were =
-      take-run g (behind b) (0x80000000 + b) (class b) (innerWords b 1 (behind b)) refl (class-begins b) (length-inner b 1 (behind b))
-      (kind-class (0x80000000 + b) (omega arith) (omega arith) ∙ ap class (omega arith))
+      take-run g (behind b) (0x80000000 + b) (Class b) (innerWords b 1 (behind b)) refl (class-begins b) (length-inner b 1 (behind b))
+      (kind-class (0x80000000 + b) (omega arith) (omega arith) ∙ ap Class (omega arith))
       (λ i x. kind-inner (getD (innerWords b 1 (behind b)) i 0) (omega (arith, getD-inner b 1 (behind b) i x))) fits were
 
 -- its slots are free, so it begins no block; then slot 0 is taken
 pub put-class : (c : ℕ) (p : Pool) → Good c p → (g b : ℕ) → b < 30 → g + suc (behind b) ≤ 512 * c
-    → ((i : ℕ) → g ≤ i → i < g + suc (behind b) → kindAt p i ≡ free)
-    → Gains c p (putSlot 1 (putRun 1 p g (wordsOf (class b))) g 0) (slotBlock g b 0)
+    → ((i : ℕ) → g ≤ i → i < g + suc (behind b) → kindAt p i ≡ Free)
+    → Gains c p (putSlot 1 (putRun 1 p g (wordsOf (Class b))) g 0) (slotBlock g b 0)
 put-class c p h g b l fits were =
-    let q : Pool = putRun 1 p g (wordsOf (class b)) in
+    let q : Pool = putRun 1 p g (wordsOf (Class b)) in
     let f = take-class c p h g b l fits were in
     let few = any-row b .slots-most in
     let none : (s : ℕ) → s < 512 → slotAt q g s ≡ false = λ s x. sym (f .same g s) ∙ f .idle s x in

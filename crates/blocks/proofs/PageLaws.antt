@@ -7,7 +7,8 @@ use native.Mathlib.Omega.{arith}
 use lib.ListN.{getD}
 use borrow.Author.Tests.{eq-eqb}
 use Rattle.bitrow.specs.Row.{isSet}
-use Rattle.records.specs.Kinds.{Kind, kindOf}
+use Rattle.records.specs.declared.Kind.{Kind}
+use Rattle.records.specs.Kinds.{kindOf}
 use Rattle.records.specs.Pool.{Pool, isEdge, kindAt, slotAt}
 use Rattle.records.proofs.Flags.{eq-cases, le-cases}
 use Rattle.blocks.specs.Blocks.{Block, flat, blocksAt, pageBlocks, live}

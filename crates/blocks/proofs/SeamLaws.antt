@@ -7,7 +7,8 @@ use Prim.Native.Nat.{ℕ, zero, suc, _+_, _≤_, _<_}
 use native.Mathlib.Nat.{add-zero}
 use native.Mathlib.Omega.{arith}
 use lib.ListN.{length, getD}
-use Rattle.records.specs.Kinds.{Kind, free, inner}
+use Rattle.records.specs.declared.Kind.{Kind}
+use Rattle.records.specs.declared.Kind.the-variants.{Free, Inner}
 use Rattle.records.specs.Sound.{step, follow}
 use Rattle.records.proofs.Flags.{cond-eq}
 use Rattle.records.proofs.WalkLaws.{walk, walk-step, Begins}
@@ -48,7 +49,7 @@ walk-stuck K w ws g n b = walk-open K (w ∷ ws) g n ∙ go (step (w ∷ ws) (K 
     go (some t) e = absurd (b w ws t e)
 
 -- free pages are walked over
-pub walk-free : (K : ℕ → Kind) (d g n h m : ℕ) → g + d ≡ h → d + m ≡ n → ((i : ℕ) → g ≤ i → i < h → K i ≡ free) → walk K [] g n ≡ walk K [] h m
+pub walk-free : (K : ℕ → Kind) (d g n h m : ℕ) → g + d ≡ h → d + m ≡ n → ((i : ℕ) → g ≤ i → i < h → K i ≡ Free) → walk K [] g n ≡ walk K [] h m
 walk-free K zero g n h m p q f =
     let p′ : g ≡ h = omega arith in let q′ : n ≡ m = omega arith in ap₂ (walk K []) p′ q′
 walk-free K (suc d) g zero h m p q f = absurd (omega arith)
@@ -58,7 +59,7 @@ walk-free K (suc d) g (suc n) h m p q f =
 
 -- and so are the pages of a run behind its first
 pub walk-inner : (K : ℕ → Kind) (ws : List ℕ) (g n h m : ℕ) → g + length ws ≡ h → length ws + m ≡ n
-    → ((i : ℕ) → i < length ws → K (g + i) ≡ inner (getD ws i 0)) → walk K ws g n ≡ walk K [] h m
+    → ((i : ℕ) → i < length ws → K (g + i) ≡ Inner (getD ws i 0)) → walk K ws g n ≡ walk K [] h m
 walk-inner K [] g n h m p q f =
     let p′ : g ≡ h = omega arith in let q′ : n ≡ m = omega arith in ap₂ (walk K []) p′ q′
 walk-inner K (w ∷ ws) g zero h m p q f = absurd (omega arith)

@@ -11,7 +11,9 @@ use lib.Seq.{sets, length-sets, set-getD, getD-set-same, getD-set-other}
 use borrow.Author.Tests.{eq-eqb, ne-eqb}
 use Rattle.bitrow.specs.Row.{isSet}
 use Rattle.bitrow.proofs.Marks.{length-put-bit, length-put-bits, is-set-same, is-set-other, is-set-in, is-set-out}
-use Rattle.records.specs.Kinds.{Kind, free, kindOf, zeros}
+use Rattle.records.specs.declared.Kind.{Kind}
+use Rattle.records.specs.declared.Kind.the-variants.{Free}
+use Rattle.records.specs.Kinds.{kindOf, zeros}
 use Rattle.records.specs.Pool.{Pool, isEdge, kindAt, slotAt}
 use Rattle.records.specs.Calls.{fit}
 use Rattle.records.proofs.Flags.{eq-cases}
@@ -37,13 +39,13 @@ sets-in l i (w ∷ ws) (suc k) j e h r = sets-in (set l i w) (suc i) ws k j (ome
 -- ---- the pages of a run
 
 -- a free page is not page 0 of a chunk
-no-free-edge : (t : Bool) (w : ℕ) → kindOf true t w ≢ free
+no-free-edge : (t : Bool) (w : ℕ) → kindOf true t w ≢ Free
 no-free-edge false w e = let z : _≡_ {A = ℕ} 0 1 = cc in omega arith
 no-free-edge true w e =
-    eq-cases (λ (k : Kind). k ≢ free) w 0x40000001 (λ _ x. let z : _≡_ {A = ℕ} 0 1 = cc in omega arith)
+    eq-cases (λ (k : Kind). k ≢ Free) w 0x40000001 (λ _ x. let z : _≡_ {A = ℕ} 0 1 = cc in omega arith)
     (λ _ x. let z : _≡_ {A = ℕ} 0 1 = cc in omega arith) e
 
-pub free-off : (p : Pool) (g : ℕ) → kindAt p g ≡ free → g % 512 ≢ 0
+pub free-off : (p : Pool) (g : ℕ) → kindAt p g ≡ Free → g % 512 ≢ 0
 unfolding kindAt isEdge
 free-off p g e z =
     no-free-edge (isSet (p .bits) g) (getD (p .words) g 0)

@@ -5,7 +5,8 @@ use mathlib.Core.Bool.{true, false}
 use mathlib.Core.List.{[]}
 use Prim.Native.Nat.{ℕ, suc, _+_, _*_, _≤_, _<_}
 use Rattle.classes.specs.Classes.{slots}
-use Rattle.records.specs.Kinds.{free, large, class, zeros, behind, wordsOf}
+use Rattle.records.specs.declared.Kind.the-variants.{Free, Large, Class}
+use Rattle.records.specs.Kinds.{zeros, behind, wordsOf}
 use Rattle.records.specs.Pool.{Pool, kindAt, slotAt}
 use Rattle.records.specs.Calls.{freshPool}
 use Rattle.blocks.specs.Blocks.{slotBlock, runBlock, live}
@@ -14,19 +15,19 @@ use Rattle.blocks.specs.Stores.{putRun, putSlot, Good, Gains, Loses}
 pub record Keeps : Type 0 where
   -- a large run is written on free pages
   pub put-large : (c : ℕ) (p : Pool) → Good c p → (g k : ℕ) → k < 511 → g + suc k ≤ 512 * c
-      → ((i : ℕ) → g ≤ i → i < g + suc k → kindAt p i ≡ free) → Gains c p (putRun 1 p g (wordsOf (large k))) (runBlock g k)
+      → ((i : ℕ) → g ≤ i → i < g + suc k → kindAt p i ≡ Free) → Gains c p (putRun 1 p g (wordsOf (Large k))) (runBlock g k)
   -- a large run is freed
-  pub give-large : (c : ℕ) (p : Pool) → Good c p → (g k : ℕ) → g < 512 * c → kindAt p g ≡ large k
+  pub give-large : (c : ℕ) (p : Pool) → Good c p → (g k : ℕ) → g < 512 * c → kindAt p g ≡ Large k
       → Loses c p (putRun 0 p g (zeros (suc k))) (runBlock g k)
   -- a free slot is taken
-  pub put-slot : (c : ℕ) (p : Pool) → Good c p → (g b s : ℕ) → g < 512 * c → kindAt p g ≡ class b → s < slots b → slotAt p g s ≡ false
+  pub put-slot : (c : ℕ) (p : Pool) → Good c p → (g b s : ℕ) → g < 512 * c → kindAt p g ≡ Class b → s < slots b → slotAt p g s ≡ false
       → Gains c p (putSlot 1 p g s) (slotBlock g b s)
   -- a taken slot is freed
-  pub give-slot : (c : ℕ) (p : Pool) → Good c p → (g b s : ℕ) → g < 512 * c → kindAt p g ≡ class b → s < slots b → slotAt p g s ≡ true
+  pub give-slot : (c : ℕ) (p : Pool) → Good c p → (g b s : ℕ) → g < 512 * c → kindAt p g ≡ Class b → s < slots b → slotAt p g s ≡ true
       → Loses c p (putSlot 0 p g s) (slotBlock g b s)
   -- a run of a class is written on free pages, and its slot 0 is taken
   pub put-class : (c : ℕ) (p : Pool) → Good c p → (g b : ℕ) → b < 30 → g + suc (behind b) ≤ 512 * c
-      → ((i : ℕ) → g ≤ i → i < g + suc (behind b) → kindAt p i ≡ free)
-      → Gains c p (putSlot 1 (putRun 1 p g (wordsOf (class b))) g 0) (slotBlock g b 0)
+      → ((i : ℕ) → g ≤ i → i < g + suc (behind b) → kindAt p i ≡ Free)
+      → Gains c p (putSlot 1 (putRun 1 p g (wordsOf (Class b))) g 0) (slotBlock g b 0)
   -- fresh records hold no block
   pub fresh-empty : (c : ℕ) → live c (freshPool c) ≡ []

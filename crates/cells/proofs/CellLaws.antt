@@ -14,7 +14,9 @@ use Rattle.bitrow.proofs.Counts.{count-le}
 use Rattle.classes.specs.declared.Row.{Row}
 use Rattle.classes.specs.Classes.{rowAt, size, slots}
 use Rattle.classes.proofs.ClassLaws.{row-facts, size-read, slots-read}
-use Rattle.records.specs.Kinds.{Kind, edge, free, large, class, inner, kindOf}
+use Rattle.records.specs.declared.Kind.{Kind}
+use Rattle.records.specs.declared.Kind.the-variants.{Edge, Free, Large, Class, Inner}
+use Rattle.records.specs.Kinds.{kindOf}
 use Rattle.records.specs.Pool.{Pool, isEdge, kindAt}
 use Rattle.records.specs.Calls.{admitOf}
 use Rattle.records.proofs.Flags.{lt-cases}
@@ -88,11 +90,11 @@ kind-shown p last g k e = ap (cellOf p g last) (sym e)
 
 module _ (c : ℕ) (p : Pool) (ok : admitOf c p ≡ 0) (g : ℕ) (l : g < 512 * c) (last : Cell) where
   pub shown-edge : g % 512 ≡ 0 → Shows p last g (cell (code "@") (code "e") 0 0 0)
-  shown-edge e = (kind-shown p last g edge (page-edge c p (admitted c p ok .whole) g l e), omega arith, omega arith)
+  shown-edge e = (kind-shown p last g Edge (page-edge c p (admitted c p ok .whole) g l e), omega arith, omega arith)
 
   module _ (n : g % 512 ≢ 0) {t : Bool} (i : t ≡ isSet (p .bits) g) where
     pub shown-free : t ≡ false → Shows p last g (cell (code ".") (code "f") 0 0 0)
-    shown-free z = (kind-shown p last g free (page-free c p (admitted c p ok .whole) g l (sym i ∙ z)), omega arith, omega arith)
+    shown-free z = (kind-shown p last g Free (page-free c p (admitted c p ok .whole) g l (sym i ∙ z)), omega arith, omega arith)
 
     module _ (z : t ≡ true) where
       -- the kind of a taken page
@@ -101,9 +103,9 @@ module _ (c : ℕ) (p : Pool) (ok : admitOf c p ≡ 0) (g : ℕ) (l : g < 512 * 
       taken = ap₂ (λ (u v : Bool). kindOf u v (getD (p .words) g 0)) (ne-eqb (g % 512) 0 n) (sym i ∙ z)
 
       -- a page behind a run's first, by its word
-      behind : (w : ℕ) → kindAt p g ≡ inner w → last .level ≤ 10 → {s : Cell} → s ≡ goesOn last → Shows p last g s
+      behind : (w : ℕ) → kindAt p g ≡ Inner w → last .level ≤ 10 → {s : Cell} → s ≡ goesOn last → Shows p last g s
       unfolding goesOn
-      behind w e h f = (f ∙ kind-shown p last g (inner w) e, rw f (omega arith), rw f h)
+      behind w e h f = (f ∙ kind-shown p last g (Inner w) e, rw f (omega arith), rw f h)
 
       pub shown-low : getD (p .words) g 0 < 0x40000001 → last .level ≤ 10 → {s : Cell} → s ≡ goesOn last → Shows p last g s
       shown-low a =
@@ -120,11 +122,11 @@ module _ (c : ℕ) (p : Pool) (ok : admitOf c p ≡ 0) (g : ℕ) (l : g < 512 * 
           let (x, h) = page-large c p (admitted c p ok .whole) g l n a b in
           let y : m ≡ suc (getD (p .words) g 0 - 0x40000001) = omega arith in
           let z = ap (cell (code "L") (code "l") 0 0) y in
-          (z ∙ kind-shown p last g (large (getD (p .words) g 0 - 0x40000001)) h, omega arith, omega arith)
+          (z ∙ kind-shown p last g (Large (getD (p .words) g 0 - 0x40000001)) h, omega arith, omega arith)
 
   pub shown-class : 0x80000000 ≤ getD (p .words) g 0 → getD (p .words) g 0 < 0xC0000000 → (b : ℕ) → b ≡ getD (p .words) g 0 - 0x80000000
       → {s : Cell} → (s ≡ runCell b (tenths (countBits (p .slots) (512 * g) (slots b)) (slots b))) × (s .joined ≤ 1) × (s .level ≤ 10)
       → Shows p last g s
   shown-class a b k e {s} h =
       let (x, m) = page-class c p (admitted c p ok .whole) g l a b in
-      (h .0 ∙ kind-shown p last g (class k) (m ∙ ap class (sym e)), h .1, h .2)
+      (h .0 ∙ kind-shown p last g (Class k) (m ∙ ap Class (sym e)), h .1, h .2)

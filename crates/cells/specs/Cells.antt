@@ -5,7 +5,8 @@ use Prim.Native.Char.{code}
 use lib.Dec.{ltb}
 use Rattle.bitrow.specs.Row.{countBits}
 use Rattle.classes.specs.Classes.{size, slots}
-use Rattle.records.specs.Kinds.{Kind, edge, free, damaged, large, class, inner}
+use Rattle.records.specs.declared.Kind.{Kind}
+use Rattle.records.specs.declared.Kind.the-variants.{Edge, Free, Damaged, Large, Class, Inner}
 use Rattle.records.specs.Pool.{Pool, kindAt}
 use Rattle.cells.specs.declared.Cell.{Cell}
 
@@ -36,12 +37,12 @@ goesOn last = cell (code "=") (last .fill) 1 (last .level) 0
 -- What page g shows, by its kind and the cell before. A large run is labelled with its pages, a class run with its slot size.
 -- (Sound records have no damaged page.)
 abbrev pub cellOf : Pool → ℕ → Cell → Kind → Cell
-cellOf p g last edge = cell (code "@") (code "e") 0 0 0
-cellOf p g last free = cell (code ".") (code "f") 0 0 0
-cellOf p g last damaged = cell (code "?") (code "f") 0 0 0
-cellOf p g last (large k) = cell (code "L") (code "l") 0 0 (suc k)
-cellOf p g last (class b) = runCell b (tenths (countBits (p .slots) (512 * g) (slots b)) (slots b))
-cellOf p g last (inner w) = goesOn last
+cellOf p g last Edge = cell (code "@") (code "e") 0 0 0
+cellOf p g last Free = cell (code ".") (code "f") 0 0 0
+cellOf p g last Damaged = cell (code "?") (code "f") 0 0 0
+cellOf p g last (Large k) = cell (code "L") (code "l") 0 0 (suc k)
+cellOf p g last (Class b) = runCell b (tenths (countBits (p .slots) (512 * g) (slots b)) (slots b))
+cellOf p g last (Inner w) = goesOn last
 
 -- the same, of a pool
 unfoldable pub cellAt : Pool → Cell → ℕ → Cell

@@ -11,7 +11,7 @@ use Rattle.bitrow.proofs.Rows.{first-at}
 use Rattle.bitrow.proofs.Marks.{one-set, zero-clear}
 use Rattle.classes.specs.Classes.{slots}
 use Rattle.classes.proofs.ClassLaws.{Cut}
-use Rattle.records.specs.Kinds.{large, class}
+use Rattle.records.specs.declared.Kind.the-variants.{Large, Class}
 use Rattle.records.specs.Pool.{Pool, slotAt}
 use Rattle.records.specs.Sound.{sound}
 use Rattle.records.proofs.WordLaws.{page-class, page-large}
@@ -92,14 +92,14 @@ module _ (c : ℕ) (p : Pool) (s : sound c p ≡ true) (g : ℕ) (l : g < 512 * 
   unfolding slotBlocks slotAt
   page-slots a b =
       let (n, h) = page-class c p s g l a b in
-      (n, kind-blocks p g (class (getD (p .words) g 0 - 0x80000000)) h)
+      (n, kind-blocks p g (Class (getD (p .words) g 0 - 0x80000000)) h)
 
   pub page-run : g % 512 ≢ 0 → 0x40000001 ≤ getD (p .words) g 0 → getD (p .words) g 0 < 0x80000000
       → (block (4096 * g) (4096 * (getD (p .words) g 0 - 0x40000000)) ∷ [] ≡ pageBlocks p g) × (getD (p .words) g 0 < 0x40000200)
   page-run n a b =
       let (m, h) = page-large c p s g l n a b in
       let e : getD (p .words) g 0 - 0x40000000 ≡ suc (getD (p .words) g 0 - 0x40000001) = omega arith in
-      (ap (λ (k : ℕ). block (4096 * g) (4096 * k) ∷ []) e ∙ kind-blocks p g (large (getD (p .words) g 0 - 0x40000001)) h, m)
+      (ap (λ (k : ℕ). block (4096 * g) (4096 * k) ∷ []) e ∙ kind-blocks p g (Large (getD (p .words) g 0 - 0x40000001)) h, m)
 
 -- ---- the blocks of all pages
 

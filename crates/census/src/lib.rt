@@ -4,7 +4,8 @@ ghost use mathlib.Core.List.{[], _∷_};
 ghost use Prim.Native.Nat.{_+_, _*_, _<_, _≤_};
 ghost use lib.ListN.{length};
 ghost use lib.Seq.{sets};
-ghost use Rattle.records.specs.Kinds.{class, slotsOf};
+ghost use Rattle.records.specs.declared.Kind.the-variants.{Class};
+ghost use Rattle.records.specs.Kinds.{slotsOf};
 ghost use Rattle.records.specs.Pool.{pool};
 ghost use Rattle.records.specs.Calls.{admitOf};
 ghost use Rattle.blocks.specs.Blocks.{block, pageBlocks, live};
@@ -39,8 +40,8 @@ fn next_taken(slots: &[u64], g: usize, s: usize, n: usize) -> usize
 
 // Writes the blocks of the run of class b that starts at page g, from taken slot to taken slot.
 fn write_slots(slots: &[u64], g: usize, b: usize, room: &mut [u64], i: usize) -> usize
-    requires { ⌜ (g < 8192) × (512 * g + 512 ≤ 64 * length (now slots)) × (b < 30) × (i + 2 * length (slotBlocks (now slots) g b 0 (slotsOf (class b))) ≤ length (now room)) ⌝ }
-    ensures { λ r. ⌜ Wrote (now (room .exit)) (now (room .entry)) r i (slotBlocks (now (slots .entry)) g b 0 (slotsOf (class b))) ⌝ }
+    requires { ⌜ (g < 8192) × (512 * g + 512 ≤ 64 * length (now slots)) × (b < 30) × (i + 2 * length (slotBlocks (now slots) g b 0 (slotsOf (Class b))) ≤ length (now room)) ⌝ }
+    ensures { λ r. ⌜ Wrote (now (room .exit)) (now (room .entry)) r i (slotBlocks (now (slots .entry)) g b 0 (slotsOf (Class b))) ⌝ }
 {
     let row = classes::class_row(b);
     let size = widths::wide16(row.size);

@@ -10,7 +10,7 @@ use lib.Dec.{eqb}
 use lib.ListN.{length, getD, set, length-set}
 use lib.Seq.{ext-getD, getD-set-same, getD-set-other}
 use borrow.Author.Tests.{eq-eqb, ne-eqb}
-use Rattle.records.specs.Kinds.{zeros}
+use Rattle.records.specs.Kinds.{edgeWord, zeros}
 use Rattle.records.specs.Pool.{Pool, pool}
 use Rattle.records.specs.Calls.{fit, leaves, repeat, freshPool, freshOf}
 use Rattle.records.proofs.KindLaws.{length-zeros, getD-zeros}
@@ -61,15 +61,15 @@ same-pool : {n : ℕ} {b b′ w w′ s s′ : List ℕ} → b ≡ b′ → w ≡
 same-pool e f g = cc
 
 pub fresh-made : (c : ℕ) (p : Pool) (b w s : List ℕ) (t : Bool) → t ≡ fit c p → t ≡ true → Filled 8 1 (length (p .bits)) (length (p .bits)) b
-    → Filled 512 0x40000001 (length (p .words)) (length (p .words)) w → Filled 8 0 (length (p .slots)) (length (p .slots)) s
+    → {first : ℕ} → first ≡ edgeWord → Filled 512 first (length (p .words)) (length (p .words)) w → Filled 8 0 (length (p .slots)) (length (p .slots)) s
     → leaves 0 (pool b w s) ≡ freshOf c p
 unfolding freshPool each
-fresh-made c p b w s t e v x y z =
+fresh-made c p b w s t e v x is y z =
     let l = shaped-lengths c (length (p .bits)) (length (p .words)) (length (p .slots)) (sym e ∙ v) in
     let bits : b ≡ repeat c (1 ∷ zeros 7) =
     filled-is (repeat c (1 ∷ zeros 7)) x (length-repeat c 8 (1 ∷ zeros 7) refl ∙ sym (l .bits-long)) (λ i a. fresh-bits c i (omega arith)) in
-    let words : w ≡ repeat c (0x40000001 ∷ zeros 511) =
-    filled-is (repeat c (0x40000001 ∷ zeros 511)) y (length-repeat c 512 (0x40000001 ∷ zeros 511) (ap (1 +_) (length-zeros 511)) ∙ sym (l .words-long))
+    let words : w ≡ repeat c (edgeWord ∷ zeros 511) =
+    filled-is (repeat c (edgeWord ∷ zeros 511)) (rw is at y) (length-repeat c 512 (edgeWord ∷ zeros 511) (ap (1 +_) (length-zeros 511)) ∙ sym (l .words-long))
     (λ i a. fresh-words c i (omega arith)) in
     let slots : s ≡ zeros (4096 * c) =
     filled-is (zeros (4096 * c)) z (length-zeros (4096 * c) ∙ sym (l .slots-long)) (λ i a. getD-zeros (4096 * c) i ∙ sym (each-zero 8 i)) in

@@ -49,7 +49,7 @@ pub fn fresh(c: u64, bits: &mut [u64], words: &mut [u32], slots: &mut [u64]) -> 
         return 1;
     }
     fill64(bits, 8, 1);
-    fill32(words, 512, 0x40000001);
+    fill32(words, 512, records::edge_word());
     fill64(slots, 8, 0);
     0
 }

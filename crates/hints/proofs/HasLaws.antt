@@ -11,7 +11,8 @@ use lib.ListN.{getD}
 use borrow.Author.Tests.{ne-eqb}
 use Rattle.classes.specs.Classes.{slots}
 use Rattle.classes.proofs.ClassLaws.{any-row}
-use Rattle.records.specs.Kinds.{Kind, edge, free, class, inner}
+use Rattle.records.specs.declared.Kind.{Kind}
+use Rattle.records.specs.declared.Kind.the-variants.{Edge, Free, Class, Inner}
 use Rattle.records.specs.Pool.{Pool, kindAt, slotAt}
 use Rattle.records.specs.Calls.{freshPool}
 use Rattle.records.proofs.Flags.{flag-eq}
@@ -55,23 +56,23 @@ run-has {c} {p} {q} {g} {n} {head} {ws} f d i l h =
   where
     none : (j : ℕ) → g ≤ j → j < g + suc n → (j ≡ g → isRunOf d head ≡ false) → hasSlot p d j ≡ hasSlot q d j
     none j x y z =
-        has-none p d j free (f .were j x y) refl
+        has-none p d j Free (f .were j x y) refl
         ∙ sym (by-cases (ℕ-discrete j g) (λ e. has-none q d j head (ap (kindAt q) e ∙ f .first) (z e))
         (λ e. let r : j ≡ suc g + (j - suc g) = omega arith in
-        has-none q d j (inner (getD ws (j - suc g) 0)) (ap (kindAt q) r ∙ f .rest (j - suc g) (omega arith)) refl))
+        has-none q d j (Inner (getD ws (j - suc g) 0)) (ap (kindAt q) r ∙ f .rest (j - suc g) (omega arith)) refl))
 
 -- a run of another class
-pub other-class : (b d : ℕ) → b ≢ d → isRunOf d (class b) ≡ false
+pub other-class : (b d : ℕ) → b ≢ d → isRunOf d (Class b) ≡ false
 other-class b d n = ne-eqb b d n
 
 -- one slot of the run of class b at page g
-pub slot-has : (c v : ℕ) (p : Pool) (g b s : ℕ) → v < 2 → Shape c p → g < 512 * c → s < 512 → kindAt p g ≡ class b
+pub slot-has : (c v : ℕ) (p : Pool) (g b s : ℕ) → v < 2 → Shape c p → g < 512 * c → s < 512 → kindAt p g ≡ Class b
     → (d i : ℕ) → i < 512 * c → (b ≡ d → i ≢ g) → hasSlot p d i ≡ hasSlot (putSlot v p g s) d i
 slot-has c v p g b s v01 shape l m e d i k n =
     by-cases (ℕ-discrete i g)
     (λ x. let o = other-class b d (λ y. n y x) in
-    has-none p d i (class b) (ap (kindAt p) x ∙ e) o
-    ∙ sym (has-none (putSlot v p g s) d i (class b) (slot-kinds c v p g s i ∙ ap (kindAt p) x ∙ e) o))
+    has-none p d i (Class b) (ap (kindAt p) x ∙ e) o
+    ∙ sym (has-none (putSlot v p g s) d i (Class b) (slot-kinds c v p g s i ∙ ap (kindAt p) x ∙ e) o))
     (λ x. has-same c p (putSlot v p g s) d i k (sym (slot-kinds c v p g s i))
     (λ t h. sym (slot-other c v p g s v01 shape l m i t (λ y. x (omega arith)))))
 
@@ -79,5 +80,5 @@ slot-has c v p g b s v01 shape l m e d i k n =
 
 pub fresh-has : (c d i : ℕ) → i < 512 * c → hasSlot (freshPool c) d i ≡ false
 fresh-has c d i l =
-    by-cases (ℕ-discrete (i % 512) 0) (λ e. has-none (freshPool c) d i edge (fresh-edge c i l e) refl)
-    (λ e. has-none (freshPool c) d i free (fresh-free c i l e) refl)
+    by-cases (ℕ-discrete (i % 512) 0) (λ e. has-none (freshPool c) d i Edge (fresh-edge c i l e) refl)
+    (λ e. has-none (freshPool c) d i Free (fresh-free c i l e) refl)

@@ -14,7 +14,8 @@ use Rattle.bitrow.proofs.Rows.{First, first-at, first-next}
 use Rattle.bitrow.proofs.Marks.{put-bit-other}
 use Rattle.classes.specs.Classes.{slots, pages, classFor}
 use Rattle.classes.proofs.ClassLaws.{any-row}
-use Rattle.records.specs.Kinds.{class, zeros, behind, wordsOf}
+use Rattle.records.specs.declared.Kind.the-variants.{Class}
+use Rattle.records.specs.Kinds.{zeros, behind, wordsOf}
 use Rattle.records.specs.Pool.{Pool, pool, kindAt}
 use Rattle.records.specs.Calls.{admitOf, leaves}
 use Rattle.records.proofs.Flags.{flag-eq, lt-cases, le-cases}
@@ -82,7 +83,7 @@ good : (c : ℕ) (p : Pool) → admitOf c p ≡ 0 → Good c p
 good c p ok = let a = admitted c p ok in record { shape = sym (lengths-shaped c _ _ _ (a .shape)); whole = a .whole }
 
 -- whether the run of class b at page g has a free slot, by its kind
-has-by : (p : Pool) (b g : ℕ) → kindAt p g ≡ class b → ltb (freeSlot (p .slots) b g) (slots b) ≡ hasSlot p b g
+has-by : (p : Pool) (b g : ℕ) → kindAt p g ≡ Class b → ltb (freeSlot (p .slots) b g) (slots b) ≡ hasSlot p b g
 unfolding hasSlot
 has-by p b g e = sym (ap (λ (t : Bool). t && ltb (freeSlot (p .slots) b g) (slots b)) (ap (isRunOf b) e ∙ eq-eqb b b refl))
 
@@ -109,7 +110,7 @@ module _ (c : ℕ) (p : Pool) (ok : admitOf c p ≡ 0) (l : List ℕ) (h : Hints
   new-run g b (bl, k) first =
       let few = shape .few in let i = k .inside in let n = k .some in
       let f = take-class c p (good c p ok) g b bl (omega arith) (λ j x y. k .clear j x (omega arith)) in
-      let q : Pool = putRun 1 p g (wordsOf (class b)) in
+      let q : Pool = putRun 1 p g (wordsOf (Class b)) in
       let sq : Shape c q = shaped-lengths c _ _ _ (sym (f .shape) ∙ good c p ok .shape) in
       let r : Pool = putSlot 1 q g 0 in
       let others : (d j : ℕ) → j < 512 * c → (b ≡ d → j ≢ g) → hasSlot p d j ≡ hasSlot r d j =

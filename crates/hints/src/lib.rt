@@ -4,7 +4,8 @@ ghost use mathlib.Core.Path.{_≡_};
 ghost use Prim.Native.Nat.{_+_, _*_, _<_, _≤_};
 ghost use lib.ListN.{length};
 ghost use Rattle.classes.specs.Classes.{size, entries};
-ghost use Rattle.records.specs.Kinds.{class, slotsOf};
+ghost use Rattle.records.specs.declared.Kind.the-variants.{Class};
+ghost use Rattle.records.specs.Kinds.{slotsOf};
 ghost use Rattle.records.specs.Pool.{pool};
 ghost use Rattle.records.specs.Calls.{admitOf, leaves};
 ghost use Rattle.reserve.specs.Reserve.{slotPage, planSlot, attempt};
@@ -103,7 +104,7 @@ fn take_slot(
     b: usize,
     n: usize,
 ) -> reserve::Reserved
-    requires { ⌜ (admitOf c (pool (now bits) (now words) (now slots)) ≡ 0) × (Hints c (pool (now bits) (now words) (now slots)) (now hints)) × (b < 30) × (n ≡ slotsOf (class b)) × (g ≡ slotPage (pool (now bits) (now words) (now slots)) b 0 (512 * c)) × (g < 512 * c) ⌝ }
+    requires { ⌜ (admitOf c (pool (now bits) (now words) (now slots)) ≡ 0) × (Hints c (pool (now bits) (now words) (now slots)) (now hints)) × (b < 30) × (n ≡ slotsOf (Class b)) × (g ≡ slotPage (pool (now bits) (now words) (now slots)) b 0 (512 * c)) × (g < 512 * c) ⌝ }
     ensures { λ r. ⌜ (leaves r (pool (now (bits .entry)) (now (words .entry)) (now (slots .exit))) ≡ carried (pool (now (bits .entry)) (now (words .entry)) (now (slots .entry))) (planSlot c (pool (now (bits .entry)) (now (words .entry)) (now (slots .entry))) b)) × (Hints c (pool (now (bits .entry)) (now (words .entry)) (now (slots .exit))) (now (hints .exit))) ⌝ }
 {
     let s = reserve::free_slot(slots, g, b, n);

@@ -11,7 +11,8 @@ use Rattle.bitrow.proofs.Rows.{First, first-at}
 use Rattle.bitrow.proofs.Marks.{one-set, zero-clear}
 use Rattle.classes.specs.Classes.{size, slots}
 use Rattle.classes.proofs.ClassLaws.{Cut, cut-few, cut-offset}
-use Rattle.records.specs.Kinds.{Kind, edge, free, damaged, large, class, inner}
+use Rattle.records.specs.declared.Kind.{Kind}
+use Rattle.records.specs.declared.Kind.the-variants.{Edge, Free, Damaged, Large, Class, Inner}
 use Rattle.records.specs.Pool.{Pool, kindAt, slotAt}
 use Rattle.records.specs.Calls.{admitOf}
 use Rattle.records.specs.Runs.{spanOf}
@@ -50,16 +51,16 @@ from-0 p g zero = refl
 from-0 p g (suc n) = ap (λ (l : List Block). l ++ flat (pageBlocks p) (suc g) n) (blocks-from-0 g (kindAt p g) (slotAt p g))
 
 -- page g starts a run of class b
-class-here : (p : Pool) (g : ℕ) {s : ℕ} {r : Begun} → r ≡ begunAt (kindAt p g) → s < r .count → (b : ℕ) × (kindAt p g ≡ class b) × (r .count ≡ slots b) × (r .size ≡ size b)
+class-here : (p : Pool) (g : ℕ) {s : ℕ} {r : Begun} → r ≡ begunAt (kindAt p g) → s < r .count → (b : ℕ) × (kindAt p g ≡ Class b) × (r .count ≡ slots b) × (r .size ≡ size b)
 class-here p g {s} {r} e l = go (kindAt p g) refl e
   where
-    go : (k : Kind) → kindAt p g ≡ k → r ≡ begunAt k → (b : ℕ) × (kindAt p g ≡ class b) × (r .count ≡ slots b) × (r .size ≡ size b)
-    go edge x f = let m = ap (λ (y : Begun). y .count) f in absurd (omega arith)
-    go free x f = let m = ap (λ (y : Begun). y .count) f in absurd (omega arith)
-    go damaged x f = let m = ap (λ (y : Begun). y .count) f in absurd (omega arith)
-    go (large k) x f = let m = ap (λ (y : Begun). y .count) f in absurd (omega arith)
-    go (class b) x f = (b, x, ap (λ (y : Begun). y .count) f, ap (λ (y : Begun). y .size) f)
-    go (inner w) x f = let m = ap (λ (y : Begun). y .count) f in absurd (omega arith)
+    go : (k : Kind) → kindAt p g ≡ k → r ≡ begunAt k → (b : ℕ) × (kindAt p g ≡ Class b) × (r .count ≡ slots b) × (r .size ≡ size b)
+    go Edge x f = let m = ap (λ (y : Begun). y .count) f in absurd (omega arith)
+    go Free x f = let m = ap (λ (y : Begun). y .count) f in absurd (omega arith)
+    go Damaged x f = let m = ap (λ (y : Begun). y .count) f in absurd (omega arith)
+    go (Large k) x f = let m = ap (λ (y : Begun). y .count) f in absurd (omega arith)
+    go (Class b) x f = (b, x, ap (λ (y : Begun). y .count) f, ap (λ (y : Begun). y .size) f)
+    go (Inner w) x f = let m = ap (λ (y : Begun). y .count) f in absurd (omega arith)
 
 pub few-slots : (p : Pool) (g : ℕ) {s : ℕ} {r : Begun} → r ≡ begunAt (kindAt p g) → s < r .count
     → (r .count ≤ 512) × ((t : ℕ) → t < r .count → t * r .size ≤ 28672)
@@ -72,14 +73,14 @@ pub few-pages : (c : ℕ) (p : Pool) → admitOf c p ≡ 0 → (g : ℕ) {r : Be
 few-pages c p ok g {r} l e = go (kindAt p g) refl (ap (λ (y : Begun). y .pages) e)
   where
     go : (k : Kind) → kindAt p g ≡ k → r .pages ≡ begunAt k .pages → g + r .pages ≤ 512 * c
-    go edge x m = omega arith
-    go free x m = omega arith
-    go damaged x m = omega arith
-    go (large k) x m =
+    go Edge x m = omega arith
+    go Free x m = omega arith
+    go Damaged x m = omega arith
+    go (Large k) x m =
         let s : spanOf (kindAt p g) ≡ suc k = ap spanOf x in
         let w = walk-run (kindAt p) (512 * c) g (sound-walks c p (admitted c p ok .whole) .walks) l (omega arith) .ends in omega arith
-    go (class b) x m = omega arith
-    go (inner w) x m = omega arith
+    go (Class b) x m = omega arith
+    go (Inner w) x m = omega arith
 
 module _ {c : ℕ} {p : Pool} {q : ℕ} where
   pub moved : {g h s : ℕ} → Ahead c p q g s → g ≡ h → Ahead c p q h s
@@ -108,14 +109,14 @@ module _ {c : ℕ} {p : Pool} {q : ℕ} where
   page-passed {g} {s} {n} {r} a h e z l m = moved (pass a h (kindAt p g) refl (go (kindAt p g) e)) m
     where
       go : (k : Kind) → r ≡ begunAt k → blocksFrom g s k (slotAt p g) ≡ []
-      go edge x = refl
-      go free x = refl
-      go damaged x = refl
-      go (large k) x = let u : r .pages ≡ suc k = ap (λ (y : Begun). y .pages) x in absurd (omega arith)
-      go (class b) x =
+      go Edge x = refl
+      go Free x = refl
+      go Damaged x = refl
+      go (Large k) x = let u : r .pages ≡ suc k = ap (λ (y : Begun). y .pages) x in absurd (omega arith)
+      go (Class b) x =
           let u : r .count ≡ slots b = ap (λ (y : Begun). y .count) x in
           let v : slots b - s ≡ 0 = omega arith in ap (flat (λ i. when (slotAt p g i) (slotBlock g b i)) s) v
-      go (inner w) x = refl
+      go (Inner w) x = refl
 
   -- a large run is the block that is looked for
   pub large-found : {g s y z : ℕ} {r : Begun} → Ahead c p q g s → g < 512 * c → r ≡ begunAt (kindAt p g) → r .pages ≢ 0 → y ≡ 4096 * g → z ≡ 4096 * r .pages
@@ -124,15 +125,15 @@ module _ {c : ℕ} {p : Pool} {q : ℕ} where
   large-found {g} {s} {y} {z} {r} a h e n u v = go (kindAt p g) refl (ap (λ (x : Begun). x .pages) e)
     where
       go : (k : Kind) → kindAt p g ≡ k → r .pages ≡ begunAt k .pages → At y z ≡ firstFrom q (live c p)
-      go edge x m = absurd (omega arith)
-      go free x m = absurd (omega arith)
-      go damaged x m = absurd (omega arith)
-      go (large k) x m = ap₂ At u (v ∙ ap (λ (i : ℕ). 4096 * i) m) ∙ sym (unroll a h x)
-      go (class b) x m = absurd (omega arith)
-      go (inner w) x m = absurd (omega arith)
+      go Edge x m = absurd (omega arith)
+      go Free x m = absurd (omega arith)
+      go Damaged x m = absurd (omega arith)
+      go (Large k) x m = ap₂ At u (v ∙ ap (λ (i : ℕ). 4096 * i) m) ∙ sym (unroll a h x)
+      go (Class b) x m = absurd (omega arith)
+      go (Inner w) x m = absurd (omega arith)
 
   -- free slots are passed
-  slots-drop : {g s : ℕ} → Ahead c p q g s → g < 512 * c → (b i : ℕ) → kindAt p g ≡ class b → s ≤ i → i ≤ slots b
+  slots-drop : {g s : ℕ} → Ahead c p q g s → g < 512 * c → (b i : ℕ) → kindAt p g ≡ Class b → s ≤ i → i ≤ slots b
       → ((j : ℕ) → s ≤ j → j < i → slotAt p g j ≡ false)
       → firstFrom q (live c p) ≡ head (flat (λ j. when (slotAt p g j) (slotBlock g b j)) i (slots b - i) ++ flat (pageBlocks p) (suc g) (512 * c - suc g))
   slots-drop {g} {s} a h b i k x y f =
@@ -185,7 +186,7 @@ module _ {c : ℕ} {p : Pool} {q : ℕ} where
               ∙ ap head
               (from-0 p g (512 * c - g)
               ∙ flat-drop (pageBlocks p) g x (512 * c - g) (512 * c - x) (f .low) (omega arith)
-              (λ j u v. sym (kind-blocks p j free (page-free c p (admitted c p ok .whole) j (omega arith) (zero-clear (p .bits) j (f .below j u v)))))
+              (λ j u v. sym (kind-blocks p j Free (page-free c p (admitted c p ok .whole) j (omega arith) (zero-clear (p .bits) j (f .below j u v)))))
               ∙ sym (from-0 p x (512 * c - x)));
         })
         o
@@ -194,7 +195,7 @@ module _ {c : ℕ} {p : Pool} {q : ℕ} where
     pub edge-passed : {g s n : ℕ} → Ahead c p q g s → g % 512 ≡ 0 → suc g ≡ n → Ahead c p q n 0
     unfolding rest
     edge-passed {g} {s} {n} a z m =
-        by-cases (decLt g (512 * c)) (λ h. moved (pass a h edge (page-edge c p (admitted c p ok .whole) g h z) refl) m)
+        by-cases (decLt g (512 * c)) (λ h. moved (pass a h Edge (page-edge c p (admitted c p ok .whole) g h z) refl) m)
         (λ h. let u : 512 * c - g ≡ 0 = omega arith in
         let v : 512 * c - n ≡ 0 = omega arith in
         record { same = a .same ∙ ap (λ (d : ℕ). head (rest p g s d)) u ∙ sym (ap (λ (d : ℕ). head (rest p n 0 d)) v) })

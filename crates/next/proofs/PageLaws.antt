@@ -6,7 +6,9 @@ use native.Mathlib.Nat.{mul-le-mul-right}
 use native.Mathlib.Omega.{arith}
 use Rattle.classes.specs.Classes.{size, slots}
 use Rattle.classes.proofs.ClassLaws.{any-row}
-use Rattle.records.specs.Kinds.{Kind, edge, free, damaged, large, class, inner, behind}
+use Rattle.records.specs.declared.Kind.{Kind}
+use Rattle.records.specs.declared.Kind.the-variants.{Edge, Free, Damaged, Large, Class, Inner}
+use Rattle.records.specs.Kinds.{behind}
 use Rattle.records.specs.Pool.{Pool, kindAt, slotAt}
 use Rattle.blocks.specs.Blocks.{slotBlock, runBlock, flat, when, blocksAt, pageBlocks}
 use Rattle.blocks.proofs.ApartLaws.{slots-fit}
@@ -27,35 +29,35 @@ module _ (q g b : ℕ) (t : ℕ → Bool) where
 
 module _ (q g : ℕ) (t : ℕ → Bool) where
   -- a page before the place: a class run there ends at or before it
-  page-below : (k : Kind) → 4096 * g < q → ((b : ℕ) → k ≡ class b → 4096 * (g + suc (behind b)) ≤ q) → Skips q (blocksAt g k t)
-  page-below edge h f = skip-nil q
-  page-below free h f = skip-nil q
-  page-below damaged h f = skip-nil q
-  page-below (large k) h f = skip-one q (runBlock g k) h
-  page-below (class b) h f = class-below q g b t (f b refl)
-  page-below (inner w) h f = skip-nil q
+  page-below : (k : Kind) → 4096 * g < q → ((b : ℕ) → k ≡ Class b → 4096 * (g + suc (behind b)) ≤ q) → Skips q (blocksAt g k t)
+  page-below Edge h f = skip-nil q
+  page-below Free h f = skip-nil q
+  page-below Damaged h f = skip-nil q
+  page-below (Large k) h f = skip-one q (runBlock g k) h
+  page-below (Class b) h f = class-below q g b t (f b refl)
+  page-below (Inner w) h f = skip-nil q
 
   -- a page at or behind the place
   page-above : (k : Kind) → q ≤ 4096 * g → Heads q (blocksAt g k t)
-  page-above edge h = head-nil q
-  page-above free h = head-nil q
-  page-above damaged h = head-nil q
-  page-above (large k) h = head-one q (runBlock g k) h
-  page-above (class b) h = slots-above q g b t 0 (slots b) (λ j x y. omega arith)
-  page-above (inner w) h = head-nil q
+  page-above Edge h = head-nil q
+  page-above Free h = head-nil q
+  page-above Damaged h = head-nil q
+  page-above (Large k) h = head-one q (runBlock g k) h
+  page-above (Class b) h = slots-above q g b t 0 (slots b) (λ j x y. omega arith)
+  page-above (Inner w) h = head-nil q
 
 -- from slot 0 on is all
 pub blocks-from-0 : (g : ℕ) (k : Kind) (t : ℕ → Bool) → blocksFrom g 0 k t ≡ blocksAt g k t
-blocks-from-0 g edge t = refl
-blocks-from-0 g free t = refl
-blocks-from-0 g damaged t = refl
-blocks-from-0 g (large k) t = refl
-blocks-from-0 g (class b) t = ap (flat (λ i. when (t i) (slotBlock g b i)) 0) (omega arith)
-blocks-from-0 g (inner w) t = refl
+blocks-from-0 g Edge t = refl
+blocks-from-0 g Free t = refl
+blocks-from-0 g Damaged t = refl
+blocks-from-0 g (Large k) t = refl
+blocks-from-0 g (Class b) t = ap (flat (λ i. when (t i) (slotBlock g b i)) 0) (omega arith)
+blocks-from-0 g (Inner w) t = refl
 
 -- ---- of a pool
 
-pub pool-below : (p : Pool) (q g : ℕ) → 4096 * g < q → ((b : ℕ) → kindAt p g ≡ class b → 4096 * (g + suc (behind b)) ≤ q) → Skips q (pageBlocks p g)
+pub pool-below : (p : Pool) (q g : ℕ) → 4096 * g < q → ((b : ℕ) → kindAt p g ≡ Class b → 4096 * (g + suc (behind b)) ≤ q) → Skips q (pageBlocks p g)
 unfolding pageBlocks
 pool-below p q g h f = page-below q g (slotAt p g) (kindAt p g) h f
 

@@ -11,7 +11,9 @@ use native.Mathlib.Omega.{arith}
 use lib.ListN.{getD}
 use Rattle.classes.specs.Classes.{size, slots}
 use Rattle.classes.proofs.ClassLaws.{any-row}
-use Rattle.records.specs.Kinds.{Kind, edge, class, inner, behind, innerWords}
+use Rattle.records.specs.declared.Kind.{Kind}
+use Rattle.records.specs.declared.Kind.the-variants.{Edge, Class, Inner}
+use Rattle.records.specs.Kinds.{behind, innerWords}
 use Rattle.records.specs.Pool.{Pool, kindAt, slotAt}
 use Rattle.records.specs.Sound.{step, sound}
 use Rattle.records.specs.Calls.{admitOf}
@@ -84,7 +86,7 @@ least z off s h e =
     }
 
 -- the slots of a class run at page f, cut there
-cut-at : (p : Pool) (q f b s : ℕ) → kindAt p f ≡ class b → 4096 * f ≤ q → Least (size b) (q - 4096 * f) s → Cut p q f s
+cut-at : (p : Pool) (q f b s : ℕ) → kindAt p f ≡ Class b → 4096 * f ≤ q → Least (size b) (q - 4096 * f) s → Cut p q f s
 unfolding flat
 cut-at p q f b s e h l = by-cases (decLe s (slots b)) some none
   where
@@ -95,7 +97,7 @@ cut-at p q f b s e h l = by-cases (decLe s (slots b)) some none
     made low x y =
         record {
           low = low;
-          parts = sym (kind-blocks p f (class b) e) ∙ x ∙ ap (λ (k : Kind). low ++ blocksFrom f s k (slotAt p f)) (sym e);
+          parts = sym (kind-blocks p f (Class b) e) ∙ x ∙ ap (λ (k : Kind). low ++ blocksFrom f s k (slotAt p f)) (sym e);
           skips = y;
           heads = subst (λ (k : Kind). Heads q (blocksFrom f s k (slotAt p f))) (sym e)
               (slots-above q f b (slotAt p f) s (slots b - s) (λ j u v. let w = l .above j u in omega arith));
@@ -135,14 +137,14 @@ module _ (c : ℕ) (p : Pool) (ok : admitOf c p ≡ 0) (q : ℕ) where
 
   module _ (l : q / 4096 < 512 * c) where
     -- a page that a class run goes over has a high word
-    over-high : (i b : ℕ) → kindAt p i ≡ class b → i < q / 4096 → q / 4096 < i + suc (behind b) → 0xC0000000 ≤ getD (p .words) (q / 4096) 0
+    over-high : (i b : ℕ) → kindAt p i ≡ Class b → i < q / 4096 → q / 4096 < i + suc (behind b) → 0xC0000000 ≤ getD (p .words) (q / 4096) 0
     over-high i b e x y =
         let s : spanOf (kindAt p i) ≡ suc (behind b) = ap spanOf e in
         let w = walk-run (kindAt p) (512 * c) i steps (omega arith) (omega arith) in
         let z : innerWords b 1 (behind b) ≡ w .due = Option·some-injective _ _ (ap (step []) (sym e) ∙ w .begins) in
         let v : getD (p .words) (q / 4096) 0 ≡ 0xC0000000 + 65536 * (1 + (q / 4096 - suc i)) + b =
-        page-word p (q / 4096) (w .rest (q / 4096) x (omega arith) ∙ ap (λ (l : List ℕ). inner (getD l (q / 4096 - suc i) 0)) (sym z)
-        ∙ ap inner (getD-inner b 1 (behind b) (q / 4096 - suc i) (omega arith))) in
+        page-word p (q / 4096) (w .rest (q / 4096) x (omega arith) ∙ ap (λ (l : List ℕ). Inner (getD l (q / 4096 - suc i) 0)) (sym z)
+        ∙ ap Inner (getD-inner b 1 (behind b) (q / 4096 - suc i) (omega arith))) in
         omega arith
 
     -- the pages before, where no class run goes over the place's page
@@ -167,7 +169,7 @@ module _ (c : ℕ) (p : Pool) (ok : admitOf c p ≡ 0) (q : ℕ) where
     start-edge g r e =
         let k = page-edge c p whole (q / 4096) l e in
         let w = page-word p (q / 4096) k in
-        behind-start g r (omega arith) (subst (Skips q) (kind-blocks p (q / 4096) edge k) (skip-nil q))
+        behind-start g r (omega arith) (subst (Skips q) (kind-blocks p (q / 4096) Edge k) (skip-nil q))
 
     -- inside a page that begins no slot
     pub start-behind : (g : ℕ) → g ≡ q / 4096 + 1 → getD (p .words) (q / 4096) 0 < 0x80000000 → q % 4096 ≢ 0 → Started c p q g 0
@@ -187,7 +189,7 @@ module _ (c : ℕ) (p : Pool) (ok : admitOf c p ≡ 0) (q : ℕ) where
         }
 
     -- a page of a class run that starts at page f
-    start-class : (f b s : ℕ) → kindAt p f ≡ class b → InRun p f (q / 4096) → Least (size b) (q - 4096 * f) s → Started c p q f s
+    start-class : (f b s : ℕ) → kindAt p f ≡ Class b → InRun p f (q / 4096) → Least (size b) (q - 4096 * f) s → Started c p q f s
     start-class f b s e r h =
         let x = r .low in let y = r .high in
         let runs = sound-runs c p whole in
@@ -216,7 +218,7 @@ module _ (c : ℕ) (p : Pool) (ok : admitOf c p ≡ 0) (q : ℕ) where
         → (w < 0x8000001E) × (Least (size (w - 0x80000000)) (q - 4096 * (q / 4096)) s → Started c p q (q / 4096) s)
     start-first w s e a b =
         let (n, h) = page-class c p whole (q / 4096) l (subst (λ (x : ℕ). 0x80000000 ≤ x) e a) (subst (λ (x : ℕ). x < 0xC0000000) e b) in
-        let k : kindAt p (q / 4096) ≡ class (w - 0x80000000) = h ∙ ap (λ (x : ℕ). class (x - 0x80000000)) (sym e) in
+        let k : kindAt p (q / 4096) ≡ Class (w - 0x80000000) = h ∙ ap (λ (x : ℕ). Class (x - 0x80000000)) (sym e) in
         let d : spanOf (kindAt p (q / 4096)) ≡ suc (behind (w - 0x80000000)) = ap spanOf k in
         (omega arith, start-class (q / 4096) (w - 0x80000000) s k (record { low = omega arith; high = omega arith }))
 
@@ -227,7 +229,7 @@ module _ (c : ℕ) (p : Pool) (ok : admitOf c p ≡ 0) (q : ℕ) where
     start-inner w f s e a r =
         let word : getD (p .words) (q / 4096) 0 ≡ 0xC0000000 + 65536 * ((w - 0xC0000000) / 65536) + w % 65536 = sym e ∙ omega arith in
         let (n, h, i) = sound-runs c p whole .back (q / 4096) ((w - 0xC0000000) / 65536) (w % 65536) l (omega arith) word in
-        let kind : kindAt p f ≡ class (w % 65536) = ap (kindAt p) r ∙ h in
+        let kind : kindAt p f ≡ Class (w % 65536) = ap (kindAt p) r ∙ h in
         let inside : InRun p f (q / 4096) = subst (λ (x : ℕ). InRun p x (q / 4096)) (sym r) i in
         let low = inside .low in let high = inside .high in
         let span : spanOf (kindAt p f) ≡ suc (behind (w % 65536)) = ap spanOf kind in

@@ -4,7 +4,8 @@ use mathlib.Core.Bool.{Bool}
 use mathlib.Core.List.{List, [], _∷_, _++_}
 use Prim.Native.Nat.{ℕ, zero, suc, _+_, _-_, _*_, _/_, _≤_, _<_}
 use Rattle.classes.specs.Classes.{size, slots}
-use Rattle.records.specs.Kinds.{Kind, edge, free, damaged, large, class, inner}
+use Rattle.records.specs.declared.Kind.{Kind}
+use Rattle.records.specs.declared.Kind.the-variants.{Edge, Free, Damaged, Large, Class, Inner}
 use Rattle.records.specs.Pool.{Pool, kindAt, slotAt}
 use Rattle.blocks.specs.Blocks.{Block, slotBlock, runBlock, flat, when, pageBlocks, live}
 use Rattle.next.specs.declared.Found.{Found}
@@ -19,12 +20,12 @@ head (b ∷ l) = At (b .place) (b .size)
 
 -- the live blocks that begin in the run that starts at page g, of a class run those from slot s on
 abbrev pub blocksFrom : ℕ → ℕ → Kind → (ℕ → Bool) → List Block
-blocksFrom g s edge taken = []
-blocksFrom g s free taken = []
-blocksFrom g s damaged taken = []
-blocksFrom g s (large k) taken = runBlock g k ∷ []
-blocksFrom g s (class b) taken = flat (λ i. when (taken i) (slotBlock g b i)) s (slots b - s)
-blocksFrom g s (inner w) taken = []
+blocksFrom g s Edge taken = []
+blocksFrom g s Free taken = []
+blocksFrom g s Damaged taken = []
+blocksFrom g s (Large k) taken = runBlock g k ∷ []
+blocksFrom g s (Class b) taken = flat (λ i. when (taken i) (slotBlock g b i)) s (slots b - s)
+blocksFrom g s (Inner w) taken = []
 
 -- the live blocks of n pages from page g on, of page g those from slot s on
 unfoldable pub rest : Pool → ℕ → ℕ → ℕ → List Block
@@ -51,9 +52,9 @@ abbrev pub begun : ℕ → ℕ → ℕ → Begun
 begun n s z = record { pages = n; count = s; size = z }
 
 abbrev pub begunAt : Kind → Begun
-begunAt edge = begun 0 0 0
-begunAt free = begun 0 0 0
-begunAt damaged = begun 0 0 0
-begunAt (large k) = begun (suc k) 0 0
-begunAt (class b) = begun 0 (slots b) (size b)
-begunAt (inner w) = begun 0 0 0
+begunAt Edge = begun 0 0 0
+begunAt Free = begun 0 0 0
+begunAt Damaged = begun 0 0 0
+begunAt (Large k) = begun (suc k) 0 0
+begunAt (Class b) = begun 0 (slots b) (size b)
+begunAt (Inner w) = begun 0 0 0

@@ -14,7 +14,9 @@ use lib.Pow.{pow-mono}
 use lib.Seq.{getD-append-add}
 use borrow.Author.Tests.{eq-eqb, ne-eqb}
 use Rattle.bitrow.specs.Row.{bit, bitAt, isSet}
-use Rattle.records.specs.Kinds.{Kind, edge, free, kindOf, zeros, slotsOf}
+use Rattle.records.specs.declared.Kind.{Kind}
+use Rattle.records.specs.declared.Kind.the-variants.{Edge, Free}
+use Rattle.records.specs.Kinds.{edgeWord, kindOf, zeros, slotsOf}
 use Rattle.records.specs.Pool.{Pool, isEdge, kindAt, slotAt}
 use Rattle.records.specs.Sound.{named, clean, step, sound}
 use Rattle.records.specs.Calls.{fit, leaves, repeat, freshPool, freshOf}
@@ -53,12 +55,12 @@ fresh-bits c i h =
     ap (λ (j : ℕ). getD (repeat c (1 ∷ zeros 7)) j 0) r ∙ getD-repeat c 8 (1 ∷ zeros 7) (i / 8) (i % 8) refl (omega arith) (omega arith)
     ∙ getD-head 1 7 (i % 8)
 
-pub fresh-words : (c g : ℕ) → g < 512 * c → getD (repeat c (0x40000001 ∷ zeros 511)) g 0 ≡ cond (eqb (g % 512) 0) 0x40000001 0
+pub fresh-words : (c g : ℕ) → g < 512 * c → getD (repeat c (edgeWord ∷ zeros 511)) g 0 ≡ cond (eqb (g % 512) 0) edgeWord 0
 fresh-words c g h =
     let r : g ≡ g / 512 * 512 + g % 512 = omega arith in
-    ap (λ (j : ℕ). getD (repeat c (0x40000001 ∷ zeros 511)) j 0) r
-    ∙ getD-repeat c 512 (0x40000001 ∷ zeros 511) (g / 512) (g % 512) (ap suc (length-zeros 511)) (omega arith) (omega arith)
-    ∙ getD-head 0x40000001 511 (g % 512)
+    ap (λ (j : ℕ). getD (repeat c (edgeWord ∷ zeros 511)) j 0) r
+    ∙ getD-repeat c 512 (edgeWord ∷ zeros 511) (g / 512) (g % 512) (ap suc (length-zeros 511)) (omega arith) (omega arith)
+    ∙ getD-head edgeWord 511 (g % 512)
 
 -- ---- its pages
 
@@ -101,17 +103,17 @@ module _ (c g : ℕ) (h : g < 512 * c) where
       (λ q. ap (λ (w : ℕ). bit w (g % 64)) (word 0 (ap (λ (t : Bool). cond t 1 0) (ne-eqb (g / 64 % 8) 0 q))) ∙ no-bit (g % 64)))
       ∙ ne-eqb 0 1 (omega arith)
 
-  pub fresh-edge : g % 512 ≡ 0 → kindAt (freshPool c) g ≡ edge
+  pub fresh-edge : g % 512 ≡ 0 → kindAt (freshPool c) g ≡ Edge
   unfolding kindAt isEdge freshPool
   fresh-edge e =
-      ap₂ (λ (t u : Bool). kindOf t u (getD (repeat c (0x40000001 ∷ zeros 511)) g 0)) (eq-eqb (g % 512) 0 e) (edge-set e)
-      ∙ ap (kindOf true true) (fresh-words c g h ∙ ap (λ (t : Bool). cond t 0x40000001 0) (eq-eqb (g % 512) 0 e)) ∙ kind-edge
+      ap₂ (λ (t u : Bool). kindOf t u (getD (repeat c (edgeWord ∷ zeros 511)) g 0)) (eq-eqb (g % 512) 0 e) (edge-set e)
+      ∙ ap (kindOf true true) (fresh-words c g h ∙ ap (λ (t : Bool). cond t edgeWord 0) (eq-eqb (g % 512) 0 e)) ∙ kind-edge
 
-  pub fresh-free : g % 512 ≢ 0 → kindAt (freshPool c) g ≡ free
+  pub fresh-free : g % 512 ≢ 0 → kindAt (freshPool c) g ≡ Free
   unfolding kindAt isEdge freshPool
   fresh-free n =
-      ap₂ (λ (t u : Bool). kindOf t u (getD (repeat c (0x40000001 ∷ zeros 511)) g 0)) (ne-eqb (g % 512) 0 n) (free-clear n)
-      ∙ ap (kindOf false false) (fresh-words c g h ∙ ap (λ (t : Bool). cond t 0x40000001 0) (ne-eqb (g % 512) 0 n)) ∙ kind-free
+      ap₂ (λ (t u : Bool). kindOf t u (getD (repeat c (edgeWord ∷ zeros 511)) g 0)) (ne-eqb (g % 512) 0 n) (free-clear n)
+      ∙ ap (kindOf false false) (fresh-words c g h ∙ ap (λ (t : Bool). cond t edgeWord 0) (ne-eqb (g % 512) 0 n)) ∙ kind-free
 
   idle : step [] (kindAt (freshPool c) g) ≡ some []
   idle = by-cases (ℕ-discrete (g % 512) 0) (λ e. ap (step []) (fresh-edge e)) (λ e. ap (step []) (fresh-free e))
@@ -142,7 +144,7 @@ fresh-fit c l h =
       some-chunk = l;
       few = h;
       bits-long = length-repeat c 8 (1 ∷ zeros 7) refl;
-      words-long = length-repeat c 512 (0x40000001 ∷ zeros 511) (ap suc (length-zeros 511));
+      words-long = length-repeat c 512 (edgeWord ∷ zeros 511) (ap suc (length-zeros 511));
       slots-long = length-zeros (4096 * c);
     }))
 

@@ -6,7 +6,8 @@ use Prim.Native.Nat.{ℕ, zero, suc, _+_, _-_, _*_, _≤_, _<_}
 use native.Mathlib.Omega.{arith}
 use lib.Dec.{eqb, ltb}
 use lib.ListN.{length, getD, length-replicate}
-use Rattle.records.specs.Kinds.{edge, free, damaged, large, class, inner, kindOf, zeros, innerWords}
+use Rattle.records.specs.declared.Kind.the-variants.{Edge, Free, Damaged, Large, Class, Inner}
+use Rattle.records.specs.Kinds.{kindOf, zeros, innerWords}
 use Rattle.records.proofs.Flags.{cond-eq, cond-ne, cond-lt, cond-nlt, cond-le, cond-nle}
 
 pub length-zeros : (n : ℕ) → length (zeros n) ≡ n
@@ -30,43 +31,43 @@ getD-inner b k (suc n) (suc i) h = getD-inner b (suc k) n i (omega arith) ∙ om
 
 -- ---- the words of a run
 
-pub kind-edge : kindOf true true 0x40000001 ≡ edge
-kind-edge = cond-eq 0x40000001 0x40000001 edge damaged refl
+pub kind-edge : kindOf true true 0x40000001 ≡ Edge
+kind-edge = cond-eq 0x40000001 0x40000001 Edge Damaged refl
 
-pub kind-free : kindOf false false 0 ≡ free
-kind-free = cond-eq 0 0 free damaged refl
+pub kind-free : kindOf false false 0 ≡ Free
+kind-free = cond-eq 0 0 Free Damaged refl
 
 -- the choices for a taken page that is not page 0, opened down to the one for words of these ranges
-high-word : (w : ℕ) → 0xC0000000 ≤ w → kindOf false true w ≡ inner w
+high-word : (w : ℕ) → 0xC0000000 ≤ w → kindOf false true w ≡ Inner w
 high-word w h = cond-le 0xC0000000 w _ _ h
 
-class-word : (w : ℕ) → 0x80000000 ≤ w → w < 0xC0000000 → kindOf false true w ≡ cond (ltb w 0x8000001E) (class (w - 0x80000000)) damaged
+class-word : (w : ℕ) → 0x80000000 ≤ w → w < 0xC0000000 → kindOf false true w ≡ cond (ltb w 0x8000001E) (Class (w - 0x80000000)) Damaged
 class-word w h l = cond-nle 0xC0000000 w _ _ l ∙ cond-le 0x80000000 w _ _ h
 
-large-word : (w : ℕ) → 0x40000001 ≤ w → w < 0x80000000 → kindOf false true w ≡ cond (ltb w 0x40000200) (large (w - 0x40000001)) damaged
+large-word : (w : ℕ) → 0x40000001 ≤ w → w < 0x80000000 → kindOf false true w ≡ cond (ltb w 0x40000200) (Large (w - 0x40000001)) Damaged
 large-word w h l = cond-nle 0xC0000000 w _ _ (omega arith) ∙ cond-nle 0x80000000 w _ _ l ∙ cond-le 0x40000001 w _ _ h
 
-low-word : (w : ℕ) → w < 0x40000001 → kindOf false true w ≡ cond (eqb w 0) (inner w) damaged
+low-word : (w : ℕ) → w < 0x40000001 → kindOf false true w ≡ cond (eqb w 0) (Inner w) Damaged
 low-word w l = cond-nle 0xC0000000 w _ _ (omega arith) ∙ cond-nle 0x80000000 w _ _ (omega arith) ∙ cond-nle 0x40000001 w _ _ l
 
-pub kind-inner : (w : ℕ) → 0xC0000000 ≤ w → kindOf false true w ≡ inner w
+pub kind-inner : (w : ℕ) → 0xC0000000 ≤ w → kindOf false true w ≡ Inner w
 kind-inner = high-word
 
-pub kind-zero : (w : ℕ) → w ≡ 0 → kindOf false true w ≡ inner w
+pub kind-zero : (w : ℕ) → w ≡ 0 → kindOf false true w ≡ Inner w
 kind-zero w e = low-word w (omega arith) ∙ cond-eq w 0 _ _ e
 
-pub kind-class : (w : ℕ) → 0x80000000 ≤ w → w < 0x8000001E → kindOf false true w ≡ class (w - 0x80000000)
+pub kind-class : (w : ℕ) → 0x80000000 ≤ w → w < 0x8000001E → kindOf false true w ≡ Class (w - 0x80000000)
 kind-class w h l = class-word w h (omega arith) ∙ cond-lt w 0x8000001E _ _ l
 
-pub kind-large : (w : ℕ) → 0x40000001 ≤ w → w < 0x40000200 → kindOf false true w ≡ large (w - 0x40000001)
+pub kind-large : (w : ℕ) → 0x40000001 ≤ w → w < 0x40000200 → kindOf false true w ≡ Large (w - 0x40000001)
 kind-large w h l = large-word w h (omega arith) ∙ cond-lt w 0x40000200 _ _ l
 
 -- no other word has a meaning
-pub kind-no-class : (w : ℕ) → 0x8000001E ≤ w → w < 0xC0000000 → kindOf false true w ≡ damaged
+pub kind-no-class : (w : ℕ) → 0x8000001E ≤ w → w < 0xC0000000 → kindOf false true w ≡ Damaged
 kind-no-class w h l = class-word w (omega arith) l ∙ cond-nlt w 0x8000001E _ _ h
 
-pub kind-no-large : (w : ℕ) → 0x40000200 ≤ w → w < 0x80000000 → kindOf false true w ≡ damaged
+pub kind-no-large : (w : ℕ) → 0x40000200 ≤ w → w < 0x80000000 → kindOf false true w ≡ Damaged
 kind-no-large w h l = large-word w (omega arith) l ∙ cond-nlt w 0x40000200 _ _ h
 
-pub kind-no-low : (w : ℕ) → w ≢ 0 → w < 0x40000001 → kindOf false true w ≡ damaged
+pub kind-no-low : (w : ℕ) → w ≢ 0 → w < 0x40000001 → kindOf false true w ≡ Damaged
 kind-no-low w n l = low-word w l ∙ cond-ne w 0 _ _ n

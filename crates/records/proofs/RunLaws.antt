@@ -10,24 +10,27 @@ use native.Mathlib.Omega.{arith}
 use lib.ListN.{length, getD}
 use borrow.Author.Tests.{eq-eqb}
 use Rattle.bitrow.specs.Row.{isSet}
-use Rattle.records.specs.Kinds.{Kind, edge, free, damaged, large, class, inner, kindOf, behind}
+use Rattle.records.specs.declared.Kind.{Kind}
+use Rattle.records.specs.declared.Kind.the-variants.{Edge, Free, Damaged, Large, Class, Inner}
+use Rattle.records.specs.Kinds.{kindOf, behind}
 use Rattle.records.specs.Pool.{Pool, isEdge, kindAt}
 use Rattle.records.specs.Sound.{step, sound}
-use Rattle.records.specs.Runs.{spanOf, InRun, Runs}
+use Rattle.records.specs.Runs.{spanOf, InRun, LiesBy, Lies, Runs}
 use Rattle.records.proofs.Flags.{eq-cases, lt-cases, le-cases}
 use Rattle.records.proofs.KindLaws.{length-zeros, getD-zeros, length-inner, getD-inner, kind-inner}
+use Rattle.records.proofs.WordLaws.{page-inner}
 use Rattle.records.proofs.WalkLaws.{walk, walk-next, sound-walks, walk-found, Begins, walk-at, Home, walk-home, walk-right}
 
 -- ---- what a word can mean
 
 -- a page of a run: not page 0, not free, not damaged
 abbrev pub Mid : Kind → Type 0
-Mid edge = ⊥
-Mid free = ⊥
-Mid damaged = ⊥
-Mid (large k) = Unit {0}
-Mid (class b) = Unit {0}
-Mid (inner w) = Unit {0}
+Mid Edge = ⊥
+Mid Free = ⊥
+Mid Damaged = ⊥
+Mid (Large k) = Unit {0}
+Mid (Class b) = Unit {0}
+Mid (Inner w) = Unit {0}
 
 no-mid-edge : (t : Bool) (w : ℕ) → Mid (kindOf true t w) → ⊥
 no-mid-edge false w m = m
@@ -42,12 +45,12 @@ mid-off p g m e =
 
 -- there are 30 classes
 abbrev Low : Kind → Type 0
-Low edge = Unit {0}
-Low free = Unit {0}
-Low damaged = Unit {0}
-Low (large k) = Unit {0}
-Low (class b) = b < 30
-Low (inner w) = Unit {0}
+Low Edge = Unit {0}
+Low Free = Unit {0}
+Low Damaged = Unit {0}
+Low (Large k) = Unit {0}
+Low (Class b) = b < 30
+Low (Inner w) = Unit {0}
 
 kind-low : (v t : Bool) (w : ℕ) → Low (kindOf v t w)
 kind-low true false w = tt
@@ -58,51 +61,43 @@ kind-low false true w =
     (λ a. le-cases Low 0x80000000 w (λ b. lt-cases Low w 0x8000001E (λ d. omega arith) (λ d. tt))
     (λ b. le-cases Low 0x40000001 w (λ d. lt-cases Low w 0x40000200 (λ e. tt) (λ e. tt)) (λ d. eq-cases Low w 0 (λ e. tt) (λ e. tt))))
 
-pub class-at-low : (p : Pool) (g b : ℕ) → kindAt p g ≡ class b → b < 30
+pub class-at-low : (p : Pool) (g b : ℕ) → kindAt p g ≡ Class b → b < 30
 unfolding kindAt
 class-at-low p g b e = subst Low e (kind-low (isEdge g) (isSet (p .bits) g) (getD (p .words) g 0))
-
--- a high word on a page that is not damaged is that of a page inside a run
-high-kind : (v t : Bool) (w : ℕ) → 0xC0000000 ≤ w → kindOf v t w ≢ damaged → kindOf v t w ≡ inner w
-high-kind true false w h n = absurd (n refl)
-high-kind true true w h n =
-    eq-cases (λ (k : Kind). k ≢ damaged → k ≡ inner w) w 0x40000001 (λ e x. absurd (omega arith)) (λ e x. absurd (x refl)) n
-high-kind false false w h n = eq-cases (λ (k : Kind). k ≢ damaged → k ≡ inner w) w 0 (λ e x. absurd (omega arith)) (λ e x. absurd (x refl)) n
-high-kind false true w h n = kind-inner w h
 
 -- ---- a run's pages
 
 -- what begins at a page, with the words behind its first page, and the pages that a run has
 pub begins-run : (k : Kind) (ws : List ℕ) → step [] k ≡ some ws → 0 < spanOf k → spanOf k ≡ suc (length ws)
-begins-run edge ws e h = absurd (omega arith)
-begins-run free ws e h = absurd (omega arith)
-begins-run damaged ws e h = absurd (omega arith)
-begins-run (large k) ws e h = ap suc (sym (length-zeros k) ∙ ap length (Option·some-injective _ _ e))
-begins-run (class b) ws e h = ap suc (sym (length-inner b 1 (behind b)) ∙ ap length (Option·some-injective _ _ e))
-begins-run (inner w) ws e h = absurd (omega arith)
+begins-run Edge ws e h = absurd (omega arith)
+begins-run Free ws e h = absurd (omega arith)
+begins-run Damaged ws e h = absurd (omega arith)
+begins-run (Large k) ws e h = ap suc (sym (length-zeros k) ∙ ap length (Option·some-injective _ _ e))
+begins-run (Class b) ws e h = ap suc (sym (length-inner b 1 (behind b)) ∙ ap length (Option·some-injective _ _ e))
+begins-run (Inner w) ws e h = absurd (omega arith)
 
 run-begins : (k : Kind) → 0 < spanOf k → Begins k
-run-begins edge h w ws t x = Option·none-ne-some t x
-run-begins free h w ws t x = Option·none-ne-some t x
-run-begins damaged h w ws t x = Option·none-ne-some t x
-run-begins (large k) h w ws t x = Option·none-ne-some t x
-run-begins (class b) h w ws t x = Option·none-ne-some t x
-run-begins (inner v) h w ws t x = absurd (omega arith)
+run-begins Edge h w ws t x = Option·none-ne-some t x
+run-begins Free h w ws t x = Option·none-ne-some t x
+run-begins Damaged h w ws t x = Option·none-ne-some t x
+run-begins (Large k) h w ws t x = Option·none-ne-some t x
+run-begins (Class b) h w ws t x = Option·none-ne-some t x
+run-begins (Inner v) h w ws t x = absurd (omega arith)
 
 run-mid : (k : Kind) → 0 < spanOf k → Mid k
-run-mid edge h = absurd (omega arith)
-run-mid free h = absurd (omega arith)
-run-mid damaged h = absurd (omega arith)
-run-mid (large k) h = tt
-run-mid (class b) h = tt
-run-mid (inner w) h = absurd (omega arith)
+run-mid Edge h = absurd (omega arith)
+run-mid Free h = absurd (omega arith)
+run-mid Damaged h = absurd (omega arith)
+run-mid (Large k) h = tt
+run-mid (Class b) h = tt
+run-mid (Inner w) h = absurd (omega arith)
 
 -- a run ends inside the pages walked, and its pages behind the first have the words that it begins with
 pub record Whole (K : ℕ → Kind) (N g : ℕ) : Type 0 where
   pub ends : g + spanOf (K g) ≤ N
   pub due : List ℕ
   pub begins : step [] (K g) ≡ some due
-  pub rest : (i : ℕ) → g < i → i < g + spanOf (K g) → K i ≡ inner (getD due (i - suc g) 0)
+  pub rest : (i : ℕ) → g < i → i < g + spanOf (K g) → K i ≡ Inner (getD due (i - suc g) 0)
 
 pub walk-run : (K : ℕ → Kind) (N g : ℕ) → walk K [] 0 N ≡ true → g < N → 0 < spanOf (K g) → Whole K N g
 walk-run K N g h l s =
@@ -120,7 +115,7 @@ walk-run K N g h l s =
 
 -- ---- the claims
 
-span-inner : (w : ℕ) (k : Kind) → k ≡ inner w → 0 < spanOf k → ⊥
+span-inner : (w : ℕ) (k : Kind) → k ≡ Inner w → 0 < spanOf k → ⊥
 span-inner w k e h = let z : spanOf k ≡ 0 = ap spanOf e in omega arith
 
 module _ (c : ℕ) (p : Pool) (s : sound c p ≡ true) where
@@ -161,31 +156,24 @@ module _ (c : ℕ) (p : Pool) (s : sound c p ≡ true) where
       (λ e. absurd (runs-off g (512 * (i / 512)) l (record { low = omega arith; high = omega arith }) (omega arith)))
 
   home-class : (g w : ℕ) → 0xC0000000 ≤ w → (h : Home (kindAt p) 0 g w) (k : Kind) → kindAt p (h .first) ≡ k → step [] k ≡ some (h .words)
-      → (b : ℕ) × (kindAt p (h .first) ≡ class b) × (w ≡ 0xC0000000 + 65536 * (g - h .first) + b) × (g < h .first + suc (behind b))
-  home-class g w l h edge e x = let n : 0 ≡ length (h .words) = ap length (Option·some-injective _ _ x) in let f = h .fits in absurd (omega arith)
-  home-class g w l h free e x = let n : 0 ≡ length (h .words) = ap length (Option·some-injective _ _ x) in let f = h .fits in absurd (omega arith)
-  home-class g w l h damaged e x = absurd (Option·none-ne-some _ x)
-  home-class g w l h (large k) e x =
+      → (b : ℕ) × (kindAt p (h .first) ≡ Class b) × (w ≡ 0xC0000000 + 65536 * (g - h .first) + b) × (g < h .first + suc (behind b))
+  home-class g w l h Edge e x = let n : 0 ≡ length (h .words) = ap length (Option·some-injective _ _ x) in let f = h .fits in absurd (omega arith)
+  home-class g w l h Free e x = let n : 0 ≡ length (h .words) = ap length (Option·some-injective _ _ x) in let f = h .fits in absurd (omega arith)
+  home-class g w l h Damaged e x = absurd (Option·none-ne-some _ x)
+  home-class g w l h (Large k) e x =
       let v : w ≡ 0 = h .word ∙ ap (λ (l : List ℕ). getD l (g - suc (h .first)) 0) (sym (Option·some-injective _ _ x)) ∙ getD-zeros k (g - suc (h .first)) in
       absurd (omega arith)
-  home-class g w l h (class b) e x =
+  home-class g w l h (Class b) e x =
       let f = h .fits in let n = h .below in
       let m : behind b ≡ length (h .words) = sym (length-inner b 1 (behind b)) ∙ ap length (Option·some-injective _ _ x) in
       let v : w ≡ 0xC0000000 + 65536 * (1 + (g - suc (h .first))) + b =
       h .word ∙ ap (λ (l : List ℕ). getD l (g - suc (h .first)) 0) (sym (Option·some-injective _ _ x))
       ∙ getD-inner b 1 (behind b) (g - suc (h .first)) (omega arith) in
       (b, e, omega arith, omega arith)
-  home-class g w l h (inner v) e x = absurd (Option·none-ne-some _ x)
-
-  inner-at : (g w : ℕ) → g < 512 * c → getD (p .words) g 0 ≡ w → 0xC0000000 ≤ w → kindAt p g ≡ inner w
-  unfolding kindAt
-  inner-at g w l e h =
-      let n = walk-right (kindAt p) (512 * c) [] 0 steps g (omega arith) (omega arith) in
-      ap (kindOf (isEdge g) (isSet (p .bits) g)) e ∙ high-kind (isEdge g) (isSet (p .bits) g) w h
-      (λ x. n (ap (kindOf (isEdge g) (isSet (p .bits) g)) e ∙ x))
+  home-class g w l h (Inner v) e x = absurd (Option·none-ne-some _ x)
 
   runs-back : (g k b : ℕ) → g < 512 * c → b < 65536 → getD (p .words) g 0 ≡ 0xC0000000 + 65536 * k + b
-      → (k ≤ g) × (kindAt p (g - k) ≡ class b) × InRun p (g - k) g
+      → (k ≤ g) × (kindAt p (g - k) ≡ Class b) × InRun p (g - k) g
   runs-back g k b l m e =
       let w : ℕ = 0xC0000000 + 65536 * k + b in
       ⊎-elim (λ x. absurd (omega (arith, x .0)))
@@ -195,11 +183,51 @@ module _ (c : ℕ) (p : Pool) (s : sound c p ≡ true) where
       let low = class-at-low p (h .first) a q in
       let r : h .first ≡ g - k = omega arith in
       let z : a ≡ b = omega arith in
-      let kind : kindAt p (g - k) ≡ class b = ap (kindAt p) (sym r) ∙ q ∙ ap class z in
+      let kind : kindAt p (g - k) ≡ Class b = ap (kindAt p) (sym r) ∙ q ∙ ap Class z in
       let span : spanOf (kindAt p (g - k)) ≡ suc (behind a) = ap spanOf kind ∙ ap (λ (x : ℕ). suc (behind x)) (sym z) in
       (omega arith, kind, record { low = omega arith; high = omega arith }))
       (walk-home (kindAt p) (512 * c) [] 0 g (0xC0000000 + 65536 * k + b) steps (omega arith) (omega arith)
-      (inner-at g (0xC0000000 + 65536 * k + b) l e (omega arith)))
+      (page-inner c p s g l (omega arith) ∙ ap Inner e))
 
   pub sound-runs : Runs c p
   sound-runs = record { apart = runs-apart; inside = runs-inside; off = runs-off; back = runs-back }
+
+-- ---- what a page lies in
+
+-- a page inside a run that has a low word has the word 0
+abbrev Nought : Kind → Type 0
+Nought Edge = Unit {0}
+Nought Free = Unit {0}
+Nought Damaged = Unit {0}
+Nought (Large k) = Unit {0}
+Nought (Class b) = Unit {0}
+Nought (Inner x) = x ≡ 0
+
+low-inner : (v t : Bool) (w : ℕ) → w < 0xC0000000 → Nought (kindOf v t w)
+low-inner true false w l = tt
+low-inner true true w l = eq-cases Nought w 0x40000001 (λ a. tt) (λ a. tt)
+low-inner false false w l = eq-cases Nought w 0 (λ a. tt) (λ a. tt)
+low-inner false true w l =
+    le-cases Nought 0xC0000000 w (λ a. absurd (omega arith))
+    (λ a. le-cases Nought 0x80000000 w (λ b. lt-cases Nought w 0x8000001E (λ d. tt) (λ d. tt))
+    (λ b. le-cases Nought 0x40000001 w (λ d. lt-cases Nought w 0x40000200 (λ e. tt) (λ e. tt)) (λ d. eq-cases Nought w 0 (λ e. e) (λ e. tt))))
+
+page-nought : (p : Pool) (g : ℕ) → getD (p .words) g 0 < 0xC0000000 → Nought (kindAt p g)
+unfolding kindAt
+page-nought p g l = low-inner (isEdge g) (isSet (p .bits) g) (getD (p .words) g 0) l
+
+pub lies-self : (p : Pool) (g : ℕ) {k : Kind} → getD (p .words) g 0 < 0xC0000000 → k ≡ kindAt p g → Lies p g g k
+lies-self p g {k} l e = record { is = e; by = go k e }
+  where
+    go : (j : Kind) → j ≡ kindAt p g → LiesBy p g g j
+    go Edge x = refl
+    go Free x = refl
+    go Damaged x = refl
+    go (Large n) x = refl
+    go (Class b) x = let s : suc (behind b) ≡ spanOf (kindAt p g) = ap spanOf x in record { low = omega arith; high = omega arith }
+    go (Inner w) x = (refl, subst Nought (sym x) (page-nought p g l))
+
+pub lies-back : (c : ℕ) (p : Pool) → sound c p ≡ true → (g : ℕ) → g < 512 * c → (k b : ℕ) → 0xC0000000 ≤ getD (p .words) g 0
+    → k ≡ (getD (p .words) g 0 - 0xC0000000) / 65536 → b ≡ getD (p .words) g 0 % 65536 → (k ≤ g) × Lies p g (g - k) (Class b)
+lies-back c p s g l k b h e f =
+    let (a, q, r) = sound-runs c p s .back g k b l (omega arith) (omega arith) in (a, record { is = sym q; by = r })

@@ -9,7 +9,8 @@ use native.Mathlib.Decide.{ℕ-discrete}
 use native.Mathlib.Nat.{add-zero}
 use native.Mathlib.Omega.{arith}
 use lib.ListN.{length, getD}
-use Rattle.records.specs.Kinds.{Kind, edge, free, damaged, large, class, inner}
+use Rattle.records.specs.declared.Kind.{Kind}
+use Rattle.records.specs.declared.Kind.the-variants.{Edge, Free, Damaged, Large, Class, Inner}
 use Rattle.records.specs.Pool.{Pool, kindAt}
 use Rattle.records.specs.Sound.{clean, step, follow, soundFrom, sound}
 use Rattle.records.proofs.Flags.{and-made, and-left, and-right, eq-cases}
@@ -99,19 +100,19 @@ walks-sound c p s = from-sound p (512 * c) [] 0 s
 
 -- ---- what a page is while words are due
 
-pub step-inner : (w : ℕ) (ws : List ℕ) (k : Kind) (t : List ℕ) → step (w ∷ ws) k ≡ some t → (k ≡ inner w) × (t ≡ ws)
-step-inner w ws edge t e = absurd (Option·none-ne-some t e)
-step-inner w ws free t e = absurd (Option·none-ne-some t e)
-step-inner w ws damaged t e = absurd (Option·none-ne-some t e)
-step-inner w ws (large k) t e = absurd (Option·none-ne-some t e)
-step-inner w ws (class b) t e = absurd (Option·none-ne-some t e)
-step-inner w ws (inner v) t e =
-    eq-cases (λ (o : Option (List ℕ)). o ≡ some t → (inner v ≡ inner w) × (t ≡ ws)) w v
-    (λ p x. (ap inner (sym p), sym (Option·some-injective ws t x))) (λ p x. absurd (Option·none-ne-some t x)) e
+pub step-inner : (w : ℕ) (ws : List ℕ) (k : Kind) (t : List ℕ) → step (w ∷ ws) k ≡ some t → (k ≡ Inner w) × (t ≡ ws)
+step-inner w ws Edge t e = absurd (Option·none-ne-some t e)
+step-inner w ws Free t e = absurd (Option·none-ne-some t e)
+step-inner w ws Damaged t e = absurd (Option·none-ne-some t e)
+step-inner w ws (Large k) t e = absurd (Option·none-ne-some t e)
+step-inner w ws (Class b) t e = absurd (Option·none-ne-some t e)
+step-inner w ws (Inner v) t e =
+    eq-cases (λ (o : Option (List ℕ)). o ≡ some t → (Inner v ≡ Inner w) × (t ≡ ws)) w v
+    (λ p x. (ap Inner (sym p), sym (Option·some-injective ws t x))) (λ p x. absurd (Option·none-ne-some t x)) e
 
 -- a walk that expects words finds them
 pub walk-found : (K : ℕ → Kind) (ws : List ℕ) (g n : ℕ) → walk K ws g n ≡ true
-    → (length ws ≤ n) × ((i : ℕ) → i < length ws → K (g + i) ≡ inner (getD ws i 0))
+    → (length ws ≤ n) × ((i : ℕ) → i < length ws → K (g + i) ≡ Inner (getD ws i 0))
 unfolding walk
 walk-found K [] g n h = (omega arith, λ i l. absurd (omega arith))
 walk-found K (w ∷ ws) g zero h = absurd (false≢true h)
@@ -152,7 +153,7 @@ pub record Home (K : ℕ → Kind) (s j w : ℕ) : Type 0 where
   pub word : w ≡ getD words (j - suc first) 0
 
 -- an inner page has a word that was due at the start, or belongs to a run that starts behind it
-pub walk-home : (K : ℕ → Kind) (n : ℕ) (st : List ℕ) (s j w : ℕ) → walk K st s n ≡ true → s ≤ j → j < s + n → K j ≡ inner w
+pub walk-home : (K : ℕ → Kind) (n : ℕ) (st : List ℕ) (s j w : ℕ) → walk K st s n ≡ true → s ≤ j → j < s + n → K j ≡ Inner w
     → ((j - s < length st) × (w ≡ getD st (j - s) 0)) ⊎ Home K s j w
 walk-home K zero st s j w h a b e = absurd (omega arith)
 walk-home K (suc n) st s j w h a b e =
@@ -164,7 +165,7 @@ walk-home K (suc n) st s j w h a b e =
     at [] t q x = absurd (Option·none-ne-some t (sym (ap (step []) (ap K (sym q) ∙ e)) ∙ x))
     at (v ∷ vs) t q x =
         let (p, r) = step-inner v vs (K s) t x in
-        let same : inner w ≡ inner v = sym e ∙ ap K q ∙ p in
+        let same : Inner w ≡ Inner v = sym e ∙ ap K q ∙ p in
         let value : w ≡ v = cc in
         let place : j - s ≡ 0 = omega arith in
         inl (omega arith, rw place value)
@@ -182,13 +183,13 @@ walk-home K (suc n) st s j w h a b e =
         inl (omega arith, rw place (u ∙ ap (λ (l : List ℕ). getD l (j - suc s) 0) r))
 
 -- a walk passes no damaged page
-pub walk-right : (K : ℕ → Kind) (n : ℕ) (st : List ℕ) (g : ℕ) → walk K st g n ≡ true → (i : ℕ) → g ≤ i → i < g + n → K i ≢ damaged
+pub walk-right : (K : ℕ → Kind) (n : ℕ) (st : List ℕ) (g : ℕ) → walk K st g n ≡ true → (i : ℕ) → g ≤ i → i < g + n → K i ≢ Damaged
 walk-right K zero st g h i a b e = absurd (omega arith)
 walk-right K (suc n) st g h i a b e =
     let s = walk-next K st g n h in
     by-cases (ℕ-discrete i g) (λ p. no st (s .due) (ap (step st) (sym (ap K (sym p) ∙ e)) ∙ s .steps))
     (λ p. walk-right K n (s .due) (suc g) (s .walks) i (omega arith) (omega arith) e)
   where
-    no : (l t : List ℕ) → step l damaged ≡ some t → ⊥
+    no : (l t : List ℕ) → step l Damaged ≡ some t → ⊥
     no [] t x = Option·none-ne-some t x
     no (w ∷ ws) t x = Option·none-ne-some t x

@@ -5,7 +5,7 @@ use mathlib.Core.List.{List, [], _∷_, _++_}
 use Prim.Native.Nat.{ℕ, zero, suc, _*_}
 use lib.Dec.{eqb, leb}
 use lib.ListN.{length}
-use Rattle.records.specs.Kinds.{zeros}
+use Rattle.records.specs.Kinds.{edgeWord, zeros}
 use Rattle.records.specs.Pool.{Pool, pool}
 use Rattle.records.specs.Sound.{sound}
 
@@ -41,7 +41,7 @@ repeat (suc c) l = l ++ repeat c l
 
 -- fresh records: of each chunk only page 0 is taken
 unfoldable pub freshPool : ℕ → Pool
-freshPool c = pool (repeat c (1 ∷ zeros 7)) (repeat c (0x40000001 ∷ zeros 511)) (zeros (4096 * c))
+freshPool c = pool (repeat c (1 ∷ zeros 7)) (repeat c (edgeWord ∷ zeros 511)) (zeros (4096 * c))
 
 -- fresh: refusal 1 or 0
 unfoldable pub freshOf : ℕ → Pool → Left ℕ

@@ -6,25 +6,38 @@ use Prim.Native.Nat.{ℕ, zero, suc, _+_, _-_, _*_}
 use lib.Dec.{eqb, ltb, leb}
 use lib.ListN.{replicate}
 use Rattle.classes.specs.Classes.{slots, pages}
+use Rattle.records.specs.declared.Kind.{Kind}
+use Rattle.records.specs.declared.Kind.the-variants.{Edge, Free, Damaged, Large, Class, Inner}
 
--- What a page is: page 0 of a chunk; free; the first page of a large run that has k pages behind it; the first page of a run of
--- class b; another page of a run, by its word; anything else
-pub data Kind : Type 0 where
-  edge free damaged : Kind
-  large class inner : ℕ → Kind
+-- What a page is, is declared in src/lib.rt: Edge, page 0 of a chunk; Free; Large k, the first page of a large run that has k pages behind
+-- it; Class b, the first page of a run of class b; Inner w, another page of a run, by its word; Damaged, anything else.
 
--- What a word means: on page 0 of a chunk or another page, with the page's bit. Of a taken page: from 0xC0000000 on a class run's page
--- behind its first; 0x80000000 + b a run of class b; 0x40000000 + n a large run of n pages, 1 to 511; 0 a large run's page behind its
--- first
+-- the word of page 0
+abbrev pub edgeWord : ℕ
+edgeWord = 0x40000001
+
+-- of the first page of a large run of n pages; the run's other pages have the word 0
+abbrev pub largeWord : ℕ → ℕ
+largeWord n = 0x40000000 + n
+
+-- of the first page of a run of class b
+abbrev pub classWord : ℕ → ℕ
+classWord b = 0x80000000 + b
+
+-- of its page at offset k, k from 1
+abbrev pub innerWord : ℕ → ℕ → ℕ
+innerWord b k = 0xC0000000 + 65536 * k + b
+
+-- What a word means: on page 0 of a chunk or another page, with the page's bit
 abbrev pub kindOf : Bool → Bool → ℕ → Kind
-kindOf true false w = damaged
-kindOf true true w = cond (eqb w 0x40000001) edge damaged
-kindOf false false w = cond (eqb w 0) free damaged
+kindOf true false w = Damaged
+kindOf true true w = cond (eqb w edgeWord) Edge Damaged
+kindOf false false w = cond (eqb w 0) Free Damaged
 kindOf false true w =
-    cond (leb 0xC0000000 w) (inner w)
-    (cond (leb 0x80000000 w) (cond (ltb w 0x8000001E) (class (w - 0x80000000)) damaged)
-    (cond (leb 0x40000001 w) (cond (ltb w 0x40000200) (large (w - 0x40000001)) damaged)
-    (cond (eqb w 0) (inner w) damaged)))
+    cond (leb 0xC0000000 w) (Inner w)
+    (cond (leb 0x80000000 w) (cond (ltb w 0x8000001E) (Class (w - 0x80000000)) Damaged)
+    (cond (leb 0x40000001 w) (cond (ltb w 0x40000200) (Large (w - 0x40000001)) Damaged)
+    (cond (eqb w 0) (Inner w) Damaged)))
 
 -- n zeros
 abbrev pub zeros : ℕ → List ℕ
@@ -37,22 +50,22 @@ behind b = pages b - 1
 -- the words of n pages of a run of class b, from offset k on
 unfoldable pub innerWords : ℕ → ℕ → ℕ → List ℕ
 innerWords b k zero = []
-innerWords b k (suc n) = (0xC0000000 + 65536 * k + b) ∷ innerWords b (suc k) n
+innerWords b k (suc n) = innerWord b k ∷ innerWords b (suc k) n
 
 -- How a page 0, a free page or a run is written: the words of its pages
 abbrev pub wordsOf : Kind → List ℕ
-wordsOf edge = 0x40000001 ∷ []
-wordsOf free = 0 ∷ []
-wordsOf damaged = []
-wordsOf (large k) = (0x40000000 + suc k) ∷ zeros k
-wordsOf (class b) = (0x80000000 + b) ∷ innerWords b 1 (behind b)
-wordsOf (inner w) = []
+wordsOf Edge = edgeWord ∷ []
+wordsOf Free = 0 ∷ []
+wordsOf Damaged = []
+wordsOf (Large k) = largeWord (suc k) ∷ zeros k
+wordsOf (Class b) = classWord b ∷ innerWords b 1 (behind b)
+wordsOf (Inner w) = []
 
 -- the slots of the run that starts at a page
 abbrev pub slotsOf : Kind → ℕ
-slotsOf edge = 0
-slotsOf free = 0
-slotsOf damaged = 0
-slotsOf (large k) = 0
-slotsOf (class b) = slots b
-slotsOf (inner w) = 0
+slotsOf Edge = 0
+slotsOf Free = 0
+slotsOf Damaged = 0
+slotsOf (Large k) = 0
+slotsOf (Class b) = slots b
+slotsOf (Inner w) = 0

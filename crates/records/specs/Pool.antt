@@ -6,7 +6,8 @@ use Prim.Native.Nat.{ℕ, _+_, _*_, _%_}
 use lib.Dec.{eqb}
 use lib.ListN.{getD}
 use Rattle.bitrow.specs.Row.{isSet}
-use Rattle.records.specs.Kinds.{Kind, kindOf}
+use Rattle.records.specs.declared.Kind.{Kind}
+use Rattle.records.specs.Kinds.{kindOf}
 
 -- page bits, page words, slot bits
 pub record Pool : Type 0 where

@@ -5,7 +5,9 @@ use mathlib.Core.List.{List, [], _∷_}
 use mathlib.Core.Option.{Option, none, some}
 use Prim.Native.Nat.{ℕ, zero, suc, _*_}
 use lib.Dec.{eqb, ltb}
-use Rattle.records.specs.Kinds.{Kind, edge, free, damaged, large, class, inner, wordsOf, slotsOf}
+use Rattle.records.specs.declared.Kind.{Kind}
+use Rattle.records.specs.declared.Kind.the-variants.{Edge, Free, Damaged, Large, Class, Inner}
+use Rattle.records.specs.Kinds.{wordsOf, slotsOf}
 use Rattle.records.specs.Pool.{Pool, kindAt, slotAt}
 
 -- f holds of each number below n
@@ -29,12 +31,12 @@ tail (w ∷ ws) = some ws
 -- something; a page inside a run has the next word that is due. (Page 0 of the next chunk is inside no run: so a run ends in its chunk.)
 abbrev pub step : List ℕ → Kind → Option (List ℕ)
 step [] k = tail (wordsOf k)
-step (w ∷ ws) edge = none
-step (w ∷ ws) free = none
-step (w ∷ ws) damaged = none
-step (w ∷ ws) (large k) = none
-step (w ∷ ws) (class b) = none
-step (w ∷ ws) (inner v) = cond (eqb w v) (some ws) none
+step (w ∷ ws) Edge = none
+step (w ∷ ws) Free = none
+step (w ∷ ws) Damaged = none
+step (w ∷ ws) (Large k) = none
+step (w ∷ ws) (Class b) = none
+step (w ∷ ws) (Inner v) = cond (eqb w v) (some ws) none
 
 abbrev pub follow : Option (List ℕ) → (List ℕ → Bool) → Bool
 follow none f = false

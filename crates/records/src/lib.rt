@@ -1,7 +1,119 @@
-// The records of a pool. What they mean stands in specs/, and their laws in proofs/.
+// The records of a pool: what page words mean, how they are written, and what sound records promise. Definitions in specs/, laws in proofs/.
 ghost use mathlib.Core.Path.{_≡_};
-ghost use Rattle.records.specs.Calls.{shaped};
-ghost use Rattle.records.specs.Runs.{SoundRecords};
+ghost use Prim.Native.Nat.{_*_, _≤_, _<_};
+ghost use lib.Dec.{eqb};
+ghost use Rattle.records.specs.Kinds.{edgeWord, largeWord, classWord, innerWord};
+ghost use Rattle.records.specs.Pool.{pool, kindAt};
+ghost use Rattle.records.specs.Calls.{shaped, admitOf};
+ghost use Rattle.records.specs.Runs.{Lies, SoundRecords};
+
+// What a page is: page 0 of a chunk; free; anything that no sound records have; the first page of a large run that has so many pages behind
+// it; the first page of a run of a class; another page of a run, by its word.
+pub enum Kind {
+    Edge,
+    Free,
+    Damaged,
+    Large(usize),
+    Class(usize),
+    Inner(u32),
+}
+
+// The page that tells what a page lies in, and what it is.
+pub struct Home {
+    pub first: usize,
+    pub kind: Kind,
+}
+
+// ---- how pages are written
+
+// The word of page 0 of a chunk.
+pub fn edge_word() -> u32
+    ensures { λ r. ⌜ r ≡ edgeWord ⌝ }
+{
+    0x40000001
+}
+
+// The word of the first page of a large run of n pages.
+pub fn large_word(n: usize) -> u32
+    requires { ⌜ n ≤ 511 ⌝ }
+    ensures { λ r. ⌜ r ≡ largeWord n ⌝ }
+{
+    0x40000000 + n as u32
+}
+
+// The word of the first page of a run of class b.
+pub fn class_word(b: usize) -> u32
+    requires { ⌜ b < 30 ⌝ }
+    ensures { λ r. ⌜ r ≡ classWord b ⌝ }
+{
+    0x80000000 + b as u32
+}
+
+// The word of the page at offset k of a run of class b.
+pub fn inner_word(b: usize, k: usize) -> u32
+    requires { ⌜ (b < 30) × (k < 8) ⌝ }
+    ensures { λ r. ⌜ r ≡ innerWord b k ⌝ }
+{
+    0xC0000000 + 65536 * (k as u32) + b as u32
+}
+
+// ---- what they mean
+
+// Whether a word is that of the first page of a run of class b.
+pub fn starts_class(w: u32, b: usize) -> bool
+    requires { ⌜ b < 30 ⌝ }
+    ensures { λ r. ⌜ r ≡ eqb w (classWord b) ⌝ }
+{
+    w == class_word(b)
+}
+
+// What page g is, on records that are sound: there a word means one thing only, and the page bit tells a free page from one inside a large
+// run.
+pub fn kind_at(c: u64, bits: &[u64], words: &[u32], slots: &[u64], g: usize) -> Kind
+    requires { ⌜ (admitOf c (pool (now bits) (now words) (now slots)) ≡ 0) × (g < 512 * c) ⌝ }
+    ensures { λ r. ⌜ r ≡ kindAt (pool (now (bits .entry)) (now (words .entry)) (now (slots .entry))) g ⌝ }
+{
+    if g % 512 == 0 {
+        return Kind::Edge;
+    }
+    let w = words[g];
+    if 0xC0000000 <= w {
+        return Kind::Inner(w);
+    }
+    if 0x80000000 <= w {
+        return Kind::Class((w - 0x80000000) as usize);
+    }
+    if 0x40000001 <= w {
+        return Kind::Large((w - 0x40000001) as usize);
+    }
+    if bitrow::is_set(bits, g) {
+        return Kind::Inner(0);
+    }
+    Kind::Free
+}
+
+// What page g lies in, on records that are sound. A page inside a class run has the way to the run's first page in its word; any other page
+// is told by itself.
+pub fn home_at(c: u64, bits: &[u64], words: &[u32], slots: &[u64], g: usize) -> Home
+    requires { ⌜ (admitOf c (pool (now bits) (now words) (now slots)) ≡ 0) × (g < 512 * c) ⌝ }
+    ensures { λ r. ⌜ Lies (pool (now (bits .entry)) (now (words .entry)) (now (slots .entry))) g (r .first) (r .kind) ⌝ }
+{
+    let w = words[g];
+    if 0xC0000000 <= w {
+        let k = ((w - 0xC0000000) / 65536) as usize;
+        let b = (w % 65536) as usize;
+        return Home {
+            first: g - k,
+            kind: Kind::Class(b),
+        };
+    }
+    Home {
+        first: g,
+        kind: kind_at(c, bits, words, slots, g),
+    }
+}
+
+// ---- refusal 1, and what sound records promise
 
 // Whether there is a pool of c chunks with so many page-bit words, page words and slot-bit words.
 pub fn is_shaped(c: u64, nbits: usize, nwords: usize, nslots: usize) -> bool

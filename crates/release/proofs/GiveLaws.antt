@@ -11,7 +11,9 @@ use lib.ListN.{length, getD, set}
 use lib.Seq.{sets}
 use Rattle.bitrow.specs.Row.{isSet, putBit, putBits}
 use Rattle.classes.specs.Classes.{size, slots}
-use Rattle.records.specs.Kinds.{Kind, edge, free, damaged, large, class, inner, zeros}
+use Rattle.records.specs.declared.Kind.{Kind}
+use Rattle.records.specs.declared.Kind.the-variants.{Edge, Free, Damaged, Large, Class, Inner}
+use Rattle.records.specs.Kinds.{zeros}
 use Rattle.records.specs.Pool.{Pool, pool, kindAt, slotAt}
 use Rattle.records.specs.Sound.{step, sound}
 use Rattle.records.specs.Runs.{spanOf}
@@ -38,13 +40,13 @@ use Rattle.release.specs.Release.{isInner, firstPage, slotSpot, spotIn, 
 pub record RunAt (c : ℕ) (p : Pool) (q g n : ℕ) : Type 0 where
   pub inside : g < 512 * c
   pub some : 1 ≤ n
-  pub kind : kindAt p g ≡ large (n - 1)
+  pub kind : kindAt p g ≡ Large (n - 1)
   pub place : q ≡ 4096 * g
 
 -- a taken slot of class b starts at the place q
 pub record SlotAt (c : ℕ) (p : Pool) (q g b s : ℕ) : Type 0 where
   pub inside : g < 512 * c
-  pub kind : kindAt p g ≡ class b
+  pub kind : kindAt p g ≡ Class b
   pub slot : s < slots b
   pub taken : slotAt p g s ≡ true
   pub place : q ≡ 4096 * g + s * size b
@@ -55,7 +57,7 @@ There c p q (Run g n) = RunAt c p q g n
 There c p q (Slot g b s) = SlotAt c p q g b s
 
 module _ (c : ℕ) (p : Pool) (q g : ℕ) (l : g < 512 * c) (low : 4096 * g ≤ q) where
-  slot-there : (b : ℕ) → kindAt p g ≡ class b → There c p q (slotSpot (p .slots) g b (q - 4096 * g))
+  slot-there : (b : ℕ) → kindAt p g ≡ Class b → There c p q (slotSpot (p .slots) g b (q - 4096 * g))
   unfolding slotSpot slotAt
   slot-there b e =
       eq-cases (There c p q) ((q - 4096 * g) % size b) 0
@@ -72,14 +74,14 @@ module _ (c : ℕ) (p : Pool) (q g : ℕ) (l : g < 512 * c) (low : 4096 * g ≤ 
       go false f h r = omega arith
 
   spot-there : (k : Kind) → kindAt p g ≡ k → There c p q (spotIn p g (q - 4096 * g) k)
-  spot-there edge e = omega arith
-  spot-there free e = omega arith
-  spot-there damaged e = omega arith
-  spot-there (large k) e =
+  spot-there Edge e = omega arith
+  spot-there Free e = omega arith
+  spot-there Damaged e = omega arith
+  spot-there (Large k) e =
       eq-cases (There c p q) (q - 4096 * g) 0
-      (λ z. let r : suc k - 1 ≡ k = omega arith in record { inside = l; some = omega arith; kind = e ∙ ap large (sym r); place = omega arith }) (λ z. omega arith)
-  spot-there (class b) e = slot-there b e
-  spot-there (inner w) e = omega arith
+      (λ z. let r : suc k - 1 ≡ k = omega arith in record { inside = l; some = omega arith; kind = e ∙ ap Large (sym r); place = omega arith }) (λ z. omega arith)
+  spot-there (Class b) e = slot-there b e
+  spot-there (Inner w) e = omega arith
 
 first-le : (p : Pool) (g : ℕ) → firstPage p g ≤ g
 unfolding firstPage
@@ -113,7 +115,7 @@ module _ (c : ℕ) (p : Pool) (s : sound c p ≡ true) {q g n : ℕ} (r : RunAt 
       let e : spanOf (kindAt p g) ≡ suc (n - 1) = ap spanOf (r .kind) in
       let w = walk-run (kindAt p) (512 * c) g (sound-walks c p s .walks) (r .inside) (omega arith) in
       let z : zeros (n - 1) ≡ w .due = Option·some-injective _ _ (ap (step []) (sym (r .kind)) ∙ w .begins) in
-      page-word p i (w .rest i x (omega arith) ∙ ap (λ (l : List ℕ). inner (getD l (i - suc g) 0)) (sym z) ∙ ap inner (getD-zeros (n - 1) (i - suc g)))
+      page-word p i (w .rest i x (omega arith) ∙ ap (λ (l : List ℕ). Inner (getD l (i - suc g) 0)) (sym z) ∙ ap Inner (getD-zeros (n - 1) (i - suc g)))
 
 pub first-cleared : (n : ℕ) (l : List ℕ) (g : ℕ) → 1 ≤ n → ((i : ℕ) → g < i → i < g + n → getD l i 0 ≡ 0) → set l g 0 ≡ sets l g (zeros n)
 first-cleared zero l g a h = absurd (omega arith)

@@ -8,7 +8,9 @@ use lib.Dec.{ltb}
 use Rattle.bitrow.specs.Row.{isSet}
 use Rattle.classes.specs.Classes.{size, slots}
 use Rattle.classes.proofs.ClassLaws.{any-row}
-use Rattle.records.specs.Kinds.{Kind, large, class, zeros, behind}
+use Rattle.records.specs.declared.Kind.{Kind}
+use Rattle.records.specs.declared.Kind.the-variants.{Large, Class}
+use Rattle.records.specs.Kinds.{zeros, behind}
 use Rattle.records.specs.Pool.{Pool, kindAt, slotAt}
 use Rattle.records.specs.Calls.{admitOf, unless, Left}
 use Rattle.records.specs.Runs.{spanOf, InRun}
@@ -88,11 +90,11 @@ module _ (c : ℕ) (p : Pool) (h : Good c p) (g : ℕ) (l : g < 512 * c) where
       cond-lt (q / 4096) (512 * c) _ _ (omega arith) ∙ ap (spotFrom p q) (in-run c p (h .whole) g (q / 4096) l r)
       ∙ ap (spotIn p g (q - 4096 * g)) e
 
-  run-found : (k : ℕ) → kindAt p g ≡ large k → spot c p (4096 * g) ≡ Run g (suc k)
+  run-found : (k : ℕ) → kindAt p g ≡ Large k → spot c p (4096 * g) ≡ Run g (suc k)
   run-found k e =
-      found-in (4096 * g) (large k) e (omega arith) (omega arith) ∙ cond-eq (4096 * g - 4096 * g) 0 (Run g (suc k)) (Nowhere 5) (omega arith)
+      found-in (4096 * g) (Large k) e (omega arith) (omega arith) ∙ cond-eq (4096 * g - 4096 * g) 0 (Run g (suc k)) (Nowhere 5) (omega arith)
 
-  slot-found : (b s : ℕ) → kindAt p g ≡ class b → s < slots b → spot c p (4096 * g + s * size b) ≡ cond (slotAt p g s) (Slot g b s) (Nowhere 6)
+  slot-found : (b s : ℕ) → kindAt p g ≡ Class b → s < slots b → spot c p (4096 * g + s * size b) ≡ cond (slotAt p g s) (Slot g b s) (Nowhere 6)
   unfolding slotSpot slotAt behind
   slot-found b s e t =
       let f = any-row b in
@@ -102,7 +104,7 @@ module _ (c : ℕ) (p : Pool) (h : Good c p) (g : ℕ) (l : g < 512 * c) where
       let off : 4096 * g + s * size b - 4096 * g ≡ s * size b = omega arith in
       let rest : s * size b % size b ≡ 0 = mul-mod-left s (size b) in
       let number : s * size b / size b ≡ s = mul-div-left s z in
-      found-in (4096 * g + s * size b) (class b) e (omega arith) (omega arith) ∙ ap (slotSpot (p .slots) g b) off
+      found-in (4096 * g + s * size b) (Class b) e (omega arith) (omega arith) ∙ ap (slotSpot (p .slots) g b) off
       ∙ cond-eq (s * size b % size b) 0 _ _ rest
       ∙ ap (λ (n : ℕ). cond (ltb n (slots b)) (cond (isSet (p .slots) (512 * g + n)) (Slot g b n) (Nowhere 6)) (Nowhere 5)) number
       ∙ cond-lt s (slots b) _ _ t

@@ -11,7 +11,9 @@ use lib.ListN.{length, getD}
 use Rattle.bitrow.specs.Row.{isSet}
 use Rattle.classes.specs.Classes.{size, slots}
 use Rattle.classes.proofs.ClassLaws.{Cut}
-use Rattle.records.specs.Kinds.{Kind, edge, free, damaged, large, class, inner, behind}
+use Rattle.records.specs.declared.Kind.{Kind}
+use Rattle.records.specs.declared.Kind.the-variants.{Edge, Free, Damaged, Large, Class, Inner}
+use Rattle.records.specs.Kinds.{behind}
 use Rattle.records.specs.Pool.{Pool, kindAt}
 use Rattle.records.specs.Sound.{step, sound}
 use Rattle.records.specs.Calls.{admitOf}
@@ -47,12 +49,12 @@ first-run p f (suc d) (suc g) r e h =
 -- ---- a page of good records
 
 starts : (k : Kind) → 0 < spanOf k → isInner k ≡ false
-starts edge h = refl
-starts free h = refl
-starts damaged h = refl
-starts (large k) h = refl
-starts (class b) h = refl
-starts (inner w) h = absurd (omega arith)
+starts Edge h = refl
+starts Free h = refl
+starts Damaged h = refl
+starts (Large k) h = refl
+starts (Class b) h = refl
+starts (Inner w) h = absurd (omega arith)
 
 module _ (c : ℕ) (p : Pool) (s : sound c p ≡ true) where
   steps : walk (kindAt p) [] 0 (512 * c) ≡ true
@@ -68,22 +70,22 @@ module _ (c : ℕ) (p : Pool) (s : sound c p ≡ true) where
 
   -- the run that a page with the word 0 inside one lies in is large
   large-home : (g : ℕ) (h : Home (kindAt p) 0 g 0) (k : Kind) → kindAt p (h .first) ≡ k → step [] k ≡ some (h .words)
-      → (n : ℕ) × (kindAt p (h .first) ≡ large n) × (g < h .first + suc n)
-  large-home g h edge e x = let n : 0 ≡ length (h .words) = ap length (Option·some-injective _ _ x) in let f = h .fits in absurd (omega arith)
-  large-home g h free e x = let n : 0 ≡ length (h .words) = ap length (Option·some-injective _ _ x) in let f = h .fits in absurd (omega arith)
-  large-home g h damaged e x = absurd (Option·none-ne-some _ x)
-  large-home g h (large n) e x =
+      → (n : ℕ) × (kindAt p (h .first) ≡ Large n) × (g < h .first + suc n)
+  large-home g h Edge e x = let n : 0 ≡ length (h .words) = ap length (Option·some-injective _ _ x) in let f = h .fits in absurd (omega arith)
+  large-home g h Free e x = let n : 0 ≡ length (h .words) = ap length (Option·some-injective _ _ x) in let f = h .fits in absurd (omega arith)
+  large-home g h Damaged e x = absurd (Option·none-ne-some _ x)
+  large-home g h (Large n) e x =
       let f = h .fits in let b = h .below in
       let m : n ≡ length (h .words) = sym (length-zeros n) ∙ ap length (Option·some-injective _ _ x) in
       (n, e, omega arith)
-  large-home g h (class b) e x =
+  large-home g h (Class b) e x =
       let f = h .fits in
       let m : behind b ≡ length (h .words) = sym (length-inner b 1 (behind b)) ∙ ap length (Option·some-injective _ _ x) in
       let v : 0 ≡ 0xC0000000 + 65536 * (1 + (g - suc (h .first))) + b =
       h .word ∙ ap (λ (l : List ℕ). getD l (g - suc (h .first)) 0) (sym (Option·some-injective _ _ x))
       ∙ getD-inner b 1 (behind b) (g - suc (h .first)) (omega arith) in
       absurd (omega arith)
-  large-home g h (inner w) e x = absurd (Option·none-ne-some _ x)
+  large-home g h (Inner w) e x = absurd (Option·none-ne-some _ x)
 
 -- ---- the ways out
 
@@ -107,7 +109,7 @@ module _ (c : ℕ) (p : Pool) (ok : admitOf c p ≡ 0) (q : ℕ) (l : q / 4096 <
   spot-here k e h = spot-in (q / 4096) k (first-self p (q / 4096) (ap isInner e ∙ h)) e
 
   pub spot-edge : q / 4096 % 512 ≡ 0 → Nowhere 5 ≡ spot c p q
-  spot-edge e = spot-here edge (page-edge c p whole (q / 4096) l e) refl
+  spot-edge e = spot-here Edge (page-edge c p whole (q / 4096) l e) refl
 
   -- the offset and the class in the word of a page inside a class run
   pub spot-inner : (w f : ℕ) → w ≡ getD (p .words) (q / 4096) 0 → 0xC0000000 ≤ w → f ≡ q / 4096 - (w - 0xC0000000) / 65536
@@ -116,21 +118,21 @@ module _ (c : ℕ) (p : Pool) (ok : admitOf c p ≡ 0) (q : ℕ) (l : q / 4096 <
       let k : ℕ = (w - 0xC0000000) / 65536 in
       let word : getD (p .words) (q / 4096) 0 ≡ 0xC0000000 + 65536 * ((w - 0xC0000000) / 65536) + w % 65536 = sym e ∙ omega arith in
       let (n, h, i) = sound-runs c p whole .back (q / 4096) ((w - 0xC0000000) / 65536) (w % 65536) l (omega arith) word in
-      let kind : kindAt p f ≡ class (w % 65536) = ap (kindAt p) r ∙ h in
+      let kind : kindAt p f ≡ Class (w % 65536) = ap (kindAt p) r ∙ h in
       let inside : InRun p f (q / 4096) = subst (λ (x : ℕ). InRun p x (q / 4096)) (sym r) i in
-      (n, class-at-low p f (w % 65536) kind, spot-in f (class (w % 65536)) (in-run c p whole f (q / 4096) (omega arith) inside) kind)
+      (n, class-at-low p f (w % 65536) kind, spot-in f (Class (w % 65536)) (in-run c p whole f (q / 4096) (omega arith) inside) kind)
 
   pub spot-class : 0x80000000 ≤ getD (p .words) (q / 4096) 0 → getD (p .words) (q / 4096) 0 < 0xC0000000
       → (getD (p .words) (q / 4096) 0 < 0x8000001E)
       × (slotSpot (p .slots) (q / 4096) (getD (p .words) (q / 4096) 0 - 0x80000000) (q - 4096 * (q / 4096)) ≡ spot c p q)
   spot-class a b =
       let (n, h) = page-class c p whole (q / 4096) l a b in
-      (n, spot-here (class (getD (p .words) (q / 4096) 0 - 0x80000000)) h refl)
+      (n, spot-here (Class (getD (p .words) (q / 4096) 0 - 0x80000000)) h refl)
 
   -- a free page, or a page inside a large run
   pub spot-low : getD (p .words) (q / 4096) 0 < 0x40000001 → Nowhere 5 ≡ spot c p q
   spot-low a =
-      ⊎-elim (λ h. spot-here free h refl)
+      ⊎-elim (λ h. spot-here Free h refl)
       (λ h. ⊎-elim (λ x. absurd (omega (arith, x .0))) (λ x. inside x)
       (walk-home (kindAt p) (512 * c) [] 0 (q / 4096) 0 (sound-walks c p whole .walks) (omega arith) (omega arith) h))
       (page-low c p whole (q / 4096) l a)
@@ -142,12 +144,12 @@ module _ (c : ℕ) (p : Pool) (ok : admitOf c p ≡ 0) (q : ℕ) (l : q / 4096 <
           let span : spanOf (kindAt p (h .first)) ≡ suc n = ap spanOf e in
           let r : InRun p (h .first) (q / 4096) = record { low = omega arith; high = omega arith } in
           sym (cond-ne (q - 4096 * h .first) 0 (Run (h .first) (suc n)) (Nowhere 5) (omega arith))
-          ∙ spot-in (h .first) (large n) (in-run c p whole (h .first) (q / 4096) (omega arith) r) e
+          ∙ spot-in (h .first) (Large n) (in-run c p whole (h .first) (q / 4096) (omega arith) r) e
 
   -- a large run's first page
   large-here : q / 4096 % 512 ≢ 0 → 0x40000001 ≤ getD (p .words) (q / 4096) 0 → getD (p .words) (q / 4096) 0 < 0x80000000
       → cond (eqb (q - 4096 * (q / 4096)) 0) (Run (q / 4096) (suc (getD (p .words) (q / 4096) 0 - 0x40000001))) (Nowhere 5) ≡ spot c p q
-  large-here n a b = let (m, h) = page-large c p whole (q / 4096) l n a b in spot-here (large (getD (p .words) (q / 4096) 0 - 0x40000001)) h refl
+  large-here n a b = let (m, h) = page-large c p whole (q / 4096) l n a b in spot-here (Large (getD (p .words) (q / 4096) 0 - 0x40000001)) h refl
 
   pub spot-large-inside : q / 4096 % 512 ≢ 0 → 0x40000001 ≤ getD (p .words) (q / 4096) 0 → getD (p .words) (q / 4096) 0 < 0x80000000 → q % 4096 ≢ 0
       → Nowhere 5 ≡ spot c p q

@@ -5,7 +5,9 @@ use Prim.Native.Nat.{ℕ, zero, suc, _+_, _-_, _*_, _/_, _%_}
 use lib.Dec.{eqb, ltb}
 use Rattle.bitrow.specs.Row.{isSet}
 use Rattle.classes.specs.Classes.{size, slots}
-use Rattle.records.specs.Kinds.{Kind, edge, free, damaged, large, class, inner, zeros}
+use Rattle.records.specs.declared.Kind.{Kind}
+use Rattle.records.specs.declared.Kind.the-variants.{Edge, Free, Damaged, Large, Class, Inner}
+use Rattle.records.specs.Kinds.{zeros}
 use Rattle.records.specs.Pool.{Pool, kindAt}
 use Rattle.records.specs.Calls.{admitOf, unless, Left, leaves}
 use Rattle.blocks.specs.Stores.{putRun, putSlot}
@@ -16,12 +18,12 @@ use Rattle.release.specs.declared.Sized.{Sized}
 -- ---- the run that a page lies in
 
 abbrev pub isInner : Kind → Bool
-isInner edge = false
-isInner free = false
-isInner damaged = false
-isInner (large k) = false
-isInner (class b) = false
-isInner (inner w) = true
+isInner Edge = false
+isInner Free = false
+isInner Damaged = false
+isInner (Large k) = false
+isInner (Class b) = false
+isInner (Inner w) = true
 
 -- the first page of the run that page g lies in: the nearest page at or below g that is not inside a run
 unfoldable pub firstPage : Pool → ℕ → ℕ
@@ -39,12 +41,12 @@ slotSpot bits g b off =
 
 -- byte `off` of what starts at page g, by the page's kind
 abbrev pub spotIn : Pool → ℕ → ℕ → Kind → Spot
-spotIn p g off edge = Nowhere 5
-spotIn p g off free = Nowhere 5
-spotIn p g off damaged = Nowhere 5
-spotIn p g off (large k) = cond (eqb off 0) (Run g (suc k)) (Nowhere 5)
-spotIn p g off (class b) = slotSpot (p .slots) g b off
-spotIn p g off (inner w) = Nowhere 5
+spotIn p g off Edge = Nowhere 5
+spotIn p g off Free = Nowhere 5
+spotIn p g off Damaged = Nowhere 5
+spotIn p g off (Large k) = cond (eqb off 0) (Run g (suc k)) (Nowhere 5)
+spotIn p g off (Class b) = slotSpot (p .slots) g b off
+spotIn p g off (Inner w) = Nowhere 5
 
 abbrev pub spotFrom : Pool → ℕ → ℕ → Spot
 spotFrom p q g = spotIn p g (q - 4096 * g) (kindAt p g)

@@ -5,7 +5,8 @@ ghost use lib.ListN.{length, getD};
 ghost use lib.Seq.{sets};
 ghost use Rattle.bitrow.specs.Row.{putBits};
 ghost use Rattle.classes.specs.Classes.{size};
-ghost use Rattle.records.specs.Kinds.{class, slotsOf, zeros};
+ghost use Rattle.records.specs.declared.Kind.the-variants.{Class};
+ghost use Rattle.records.specs.Kinds.{slotsOf, zeros};
 ghost use Rattle.records.specs.Pool.{pool};
 ghost use Rattle.records.specs.Calls.{admitOf, leaves};
 ghost use Rattle.release.specs.Means.{ReleaseMeans};
@@ -36,7 +37,7 @@ pub struct Sized {
 
 // Byte off of a run of class b that starts at page g and is cut into `count` slots of so many bytes.
 pub fn slot_spot(slots: &[u64], g: usize, b: usize, off: usize, bytes: usize, count: usize) -> Spot
-    requires { ⌜ (g < 8192) × (512 * g + 512 ≤ 64 * length (now slots)) × (b < 30) × (bytes ≡ size b) × (count ≡ slotsOf (class b)) ⌝ }
+    requires { ⌜ (g < 8192) × (512 * g + 512 ≤ 64 * length (now slots)) × (b < 30) × (bytes ≡ size b) × (count ≡ slotsOf (Class b)) ⌝ }
     ensures { λ r. ⌜ r ≡ slotSpot (now (slots .entry)) g b off ⌝ }
 {
     if off % bytes != 0 {

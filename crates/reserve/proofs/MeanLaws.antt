@@ -12,7 +12,8 @@ use borrow.Author.Tests.{eq-eqb, lt-ltb}
 use Rattle.bitrow.specs.Row.{bitAt, isSet}
 use Rattle.classes.specs.Classes.{size, slots, pages}
 use Rattle.classes.proofs.ClassLaws.{any-row, row-facts}
-use Rattle.records.specs.Kinds.{large, class, wordsOf, behind}
+use Rattle.records.specs.declared.Kind.the-variants.{Large, Class}
+use Rattle.records.specs.Kinds.{wordsOf, behind}
 use Rattle.records.specs.Pool.{Pool, kindAt, slotAt}
 use Rattle.records.specs.Calls.{Left}
 use Rattle.records.specs.Runs.{spanOf}
@@ -47,7 +48,7 @@ gains c p h (NewRun g b) (l, k) e =
 gains c p h (NewLarge g m) k e =
     let a = k .some in let f = k .few in let i = k .inside in
     let r : suc (m - 1) ≡ m = omega arith in
-    subst (λ (z : ℕ). Gains c p (putRun 1 p g (wordsOf (large (m - 1)))) (record { place = 4096 * g; size = 4096 * z })) r
+    subst (λ (z : ℕ). Gains c p (putRun 1 p g (wordsOf (Large (m - 1)))) (record { place = 4096 * g; size = 4096 * z })) r
     (put-large c p h g (m - 1) (omega arith) (omega arith) (λ j x y. k .clear j x (omega arith)))
 
 kept : (p : Pool) (x : Plan) (r : ℕ) → answer x .refusal ≡ suc r → perform p x ≡ p
@@ -69,7 +70,7 @@ free-above p b g s l e =
     (λ h. omega arith)
 
 -- so a run that has one is found
-pub found-run : (p : Pool) (b g s : ℕ) → kindAt p g ≡ class b → s < slots b → slotAt p g s ≡ false → hasSlot p b g ≡ true
+pub found-run : (p : Pool) (b g s : ℕ) → kindAt p g ≡ Class b → s < slots b → slotAt p g s ≡ false → hasSlot p b g ≡ true
 unfolding hasSlot
 found-run p b g s k l e =
     let a = free-above p b g s l e in
@@ -104,7 +105,7 @@ slot-plan c p b g s e =
     no Nothing q = let z : _≡_ {A = ℕ} 0 1 = cc in omega arith
 
 lowest-slot : (c : ℕ) (p : Pool) → Good c p → (b g s : ℕ) → planSlot c p b ≡ InRun g b s
-    → (f t : ℕ) → f < 512 * c → kindAt p f ≡ class b → t < slots b → slotAt p f t ≡ false → 4096 * g + s * size b ≤ 4096 * f + t * size b
+    → (f t : ℕ) → f < 512 * c → kindAt p f ≡ Class b → t < slots b → slotAt p f t ≡ false → 4096 * g + s * size b ≤ 4096 * f + t * size b
 unfolding behind
 lowest-slot c p h b g s e f t lf k lt free′ =
     let (x, y, z) = slot-plan c p b g s e in
@@ -122,7 +123,7 @@ lowest-slot c p h b g s e f t lf k lt free′ =
         let m = mul-le-mul-right {m = s} {n = t} (size b) (omega arith) in omega arith
 
     -- in a run behind it
-    apart : f ≢ g → g < 512 * c → firstRun c p b ≤ f → g ≡ firstRun c p b → kindAt p g ≡ class b → freeSlot (p .slots) b g < slots b
+    apart : f ≢ g → g < 512 * c → firstRun c p b ≤ f → g ≡ firstRun c p b → kindAt p g ≡ Class b → freeSlot (p .slots) b g < slots b
         → s ≡ freeSlot (p .slots) b g → 4096 * g + s * size b ≤ 4096 * f + t * size b
     apart q z low x kg sl y =
         let span : spanOf (kindAt p g) ≡ suc (pages b - 1) = ap spanOf kg in

@@ -14,7 +14,8 @@ use Rattle.bitrow.proofs.Rows.{First, next-first}
 use Rattle.bitrow.proofs.Marks.{zero-clear}
 use Rattle.classes.specs.Classes.{slots, pages, classFor}
 use Rattle.classes.proofs.ClassLaws.{row-facts, class-smallest}
-use Rattle.records.specs.Kinds.{Kind, edge, free, damaged, large, class, inner}
+use Rattle.records.specs.declared.Kind.{Kind}
+use Rattle.records.specs.declared.Kind.the-variants.{Edge, Free, Damaged, Large, Class, Inner}
 use Rattle.records.specs.Pool.{Pool, kindAt, slotAt}
 use Rattle.records.specs.Sound.{sound}
 use Rattle.records.proofs.Flags.{flag-eq, and-left, and-right, cond-lt, cond-nlt, cond-le, cond-nle, lt-cases, le-cases}
@@ -44,13 +45,13 @@ free-first bits b g =
 -- ---- a run of the class, by its first word
 
 -- a kind that is a run of class b
-run-of : (b : ℕ) (k : Kind) → isRunOf b k ≡ true → k ≡ class b
-run-of b edge e = absurd (false≢true e)
-run-of b free e = absurd (false≢true e)
-run-of b damaged e = absurd (false≢true e)
-run-of b (large k) e = absurd (false≢true e)
-run-of b (class d) e = ap class (eqb-true d b e)
-run-of b (inner w) e = absurd (false≢true e)
+run-of : (b : ℕ) (k : Kind) → isRunOf b k ≡ true → k ≡ Class b
+run-of b Edge e = absurd (false≢true e)
+run-of b Free e = absurd (false≢true e)
+run-of b Damaged e = absurd (false≢true e)
+run-of b (Large k) e = absurd (false≢true e)
+run-of b (Class d) e = ap Class (eqb-true d b e)
+run-of b (Inner w) e = absurd (false≢true e)
 
 module _ (c : ℕ) (p : Pool) (s : sound c p ≡ true) (b : ℕ) (bl : b < 30) where
   -- the word of a page of sound records tells whether a run of class b starts there

@@ -8,7 +8,8 @@ use lib.Seq.{sets}
 use Rattle.bitrow.specs.Row.{putBit, putBits}
 use Rattle.classes.specs.Classes.{pages, slots}
 use Rattle.classes.proofs.ClassLaws.{any-row, row-facts}
-use Rattle.records.specs.Kinds.{large, class, behind, innerWords, wordsOf}
+use Rattle.records.specs.declared.Kind.the-variants.{Large, Class}
+use Rattle.records.specs.Kinds.{behind, innerWords, wordsOf}
 use Rattle.records.specs.Pool.{Pool, pool}
 use Rattle.records.proofs.KindLaws.{length-zeros, length-inner}
 use Rattle.records.proofs.WordLaws.{page-word}
@@ -45,7 +46,7 @@ written-on {ws} {ws₀} {g} {b} {n} {k} h l w e =
     }
 
 pub written-all : (l : List ℕ) {ws ws₀ : List ℕ} {g b n k : ℕ} → Written ws ws₀ g b n k → n ≤ k → n ≡ pages b → ws₀ ≡ set l g (0x80000000 + b)
-    → ws ≡ sets l g (wordsOf (class b))
+    → ws ≡ sets l g (wordsOf (Class b))
 unfolding innerWords behind
 written-all l {ws} {ws₀} {g} {b} {n} {k} h m e f =
     let r : 0 ≡ n - k = omega arith in
@@ -59,32 +60,32 @@ run-pages {b} l e = let h = row-facts b l in (omega arith, omega arith)
 -- ---- the pool that they leave
 
 -- a class run has as many words as pages
-pub class-long : (b : ℕ) → b < 30 → length (wordsOf (class b)) ≡ pages b
+pub class-long : (b : ℕ) → b < 30 → length (wordsOf (Class b)) ≡ pages b
 unfolding behind
 class-long b l = let h = row-facts b l in ap suc (length-inner b 1 (pages b - 1)) ∙ omega arith
 
-pub new-run-is : (p : Pool) (g b n : ℕ) → b < 30 → n ≡ pages b → (bs ws ss : List ℕ) → bs ≡ putBits 1 (p .bits) g n → ws ≡ sets (p .words) g (wordsOf (class b))
+pub new-run-is : (p : Pool) (g b n : ℕ) → b < 30 → n ≡ pages b → (bs ws ss : List ℕ) → bs ≡ putBits 1 (p .bits) g n → ws ≡ sets (p .words) g (wordsOf (Class b))
     → ss ≡ putBit 1 (p .slots) (512 * g) → pool bs ws ss ≡ perform p (NewRun g b)
 unfolding putRun putSlot
 new-run-is p g b n l e bs ws ss x y z =
-    let r : bs ≡ putBits 1 (p .bits) g (length (wordsOf (class b))) = x ∙ ap (putBits 1 (p .bits) g) (e ∙ sym (class-long b l)) in
+    let r : bs ≡ putBits 1 (p .bits) g (length (wordsOf (Class b))) = x ∙ ap (putBits 1 (p .bits) g) (e ∙ sym (class-long b l)) in
     let i : 512 * g ≡ 512 * g + 0 = omega arith in
     let t : ss ≡ putBit 1 (p .slots) (512 * g + 0) = z ∙ ap (putBit 1 (p .slots)) i in
     cc
 
 pub large-stored : (n : ℕ) (l : List ℕ) (g w : ℕ) → 1 ≤ n → w ≡ 0x40000000 + n → ((i : ℕ) → g < i → i < g + n → getD l i 0 ≡ 0)
-    → set l g w ≡ sets l g (wordsOf (large (n - 1)))
+    → set l g w ≡ sets l g (wordsOf (Large (n - 1)))
 large-stored zero l g w a e h = absurd (omega arith)
 large-stored (suc n) l g w a e h =
     let r : suc n - 1 ≡ n = omega arith in
-    ap (set l g) e ∙ first-stored (0x40000000 + suc n) n l g h ∙ ap (λ (k : ℕ). sets l g (wordsOf (large k))) (sym r)
+    ap (set l g) e ∙ first-stored (0x40000000 + suc n) n l g h ∙ ap (λ (k : ℕ). sets l g (wordsOf (Large k))) (sym r)
 
-pub new-large-is : (p : Pool) (g n : ℕ) → 1 ≤ n → (bs ws : List ℕ) → bs ≡ putBits 1 (p .bits) g n → ws ≡ sets (p .words) g (wordsOf (large (n - 1)))
+pub new-large-is : (p : Pool) (g n : ℕ) → 1 ≤ n → (bs ws : List ℕ) → bs ≡ putBits 1 (p .bits) g n → ws ≡ sets (p .words) g (wordsOf (Large (n - 1)))
     → pool bs ws (p .slots) ≡ perform p (NewLarge g n)
 unfolding putRun
 new-large-is p g n a bs ws x y =
     let r : n ≡ suc (n - 1) = omega arith in
-    let q : bs ≡ putBits 1 (p .bits) g (length (wordsOf (large (n - 1)))) = x ∙ ap (putBits 1 (p .bits) g) (r ∙ ap suc (sym (length-zeros (n - 1)))) in
+    let q : bs ≡ putBits 1 (p .bits) g (length (wordsOf (Large (n - 1)))) = x ∙ ap (putBits 1 (p .bits) g) (r ∙ ap suc (sym (length-zeros (n - 1)))) in
     cc
 
 pub in-run-is : (p : Pool) (g b s : ℕ) (ss : List ℕ) → ss ≡ putBit 1 (p .slots) (512 * g + s) → pool (p .bits) (p .words) ss ≡ perform p (InRun g b s)

@@ -5,7 +5,7 @@ use mathlib.Core.Bool.{true, false}
 use mathlib.Core.List.{List}
 use Prim.Native.Nat.{ℕ, suc, _+_, _*_, _≤_, _<_}
 use Rattle.classes.specs.Classes.{size, slots, pages}
-use Rattle.records.specs.Kinds.{class}
+use Rattle.records.specs.declared.Kind.the-variants.{Class}
 use Rattle.records.specs.Pool.{Pool, kindAt, slotAt}
 use Rattle.gaps.specs.Gaps.{HoldsNone}
 use Rattle.blocks.specs.Blocks.{Block, block}
@@ -20,7 +20,7 @@ blockOf r = block (r .place) (r .size)
 
 -- each slot of each run of class b is taken
 abbrev pub NoSlot : ℕ → Pool → ℕ → Type 0
-NoSlot c p b = (g s : ℕ) → g < 512 * c → kindAt p g ≡ class b → s < slots b → slotAt p g s ≡ true
+NoSlot c p b = (g s : ℕ) → g < 512 * c → kindAt p g ≡ Class b → s < slots b → slotAt p g s ≡ true
 
 -- no gap of any chunk holds n pages
 abbrev pub NoGap : ℕ → List ℕ → ℕ → Type 0
@@ -34,7 +34,7 @@ pub record ReserveMeans : Type 0 where
   pub refused : (c : ℕ) (p : Pool) (n r : ℕ) → attempt c p n .answer .refusal ≡ suc r → attempt c p n .left ≡ p
   -- a slot in a run that stands is the free one with the lowest place among all runs of its class
   pub lowest : (c : ℕ) (p : Pool) → Good c p → (b g s : ℕ) → planSlot c p b ≡ InRun g b s
-      → (f t : ℕ) → f < 512 * c → kindAt p f ≡ class b → t < slots b → slotAt p f t ≡ false → 4096 * g + s * size b ≤ 4096 * f + t * size b
+      → (f t : ℕ) → f < 512 * c → kindAt p f ≡ Class b → t < slots b → slotAt p f t ≡ false → 4096 * g + s * size b ≤ 4096 * f + t * size b
   -- refusal 4 is given exactly when there is neither a free slot nor a long enough gap
   pub no-slot : (c : ℕ) (p : Pool) (b : ℕ) → (planSlot c p b ≡ Refuse 4) ↔ (NoSlot c p b × NoGap c (p .bits) (pages b))
   pub no-run : (c : ℕ) (bits : List ℕ) (n : ℕ) → (planRun c bits n ≡ Refuse 4) ↔ NoGap c bits n

@@ -3,7 +3,7 @@ use mathlib.Core.Path.{_≡_}
 use mathlib.Core.Bool.{false}
 use Prim.Native.Nat.{ℕ, _+_, _*_, _≤_, _<_}
 use Rattle.classes.specs.Classes.{size, slots, pages}
-use Rattle.records.specs.Kinds.{free, class}
+use Rattle.records.specs.declared.Kind.the-variants.{Free, Class}
 use Rattle.records.specs.Pool.{Pool, kindAt, slotAt}
 use Rattle.reserve.specs.declared.Plan.{Plan}
 use Rattle.reserve.specs.declared.Plan.the-variants.{Refuse, InRun, NewRun, NewLarge}
@@ -11,7 +11,7 @@ use Rattle.reserve.specs.declared.Plan.the-variants.{Refuse, InRun, NewR
 -- slot s of the run of class b at page g is free
 pub record SlotFree (c : ℕ) (p : Pool) (g b s : ℕ) : Type 0 where
   pub inside : g < 512 * c
-  pub kind : kindAt p g ≡ class b
+  pub kind : kindAt p g ≡ Class b
   pub slot : s < slots b
   pub clear : slotAt p g s ≡ false
 
@@ -20,7 +20,7 @@ pub record PagesFree (c : ℕ) (p : Pool) (g n : ℕ) : Type 0 where
   pub some : 1 ≤ n
   pub few : n ≤ 511
   pub inside : g + n ≤ 512 * c
-  pub clear : (i : ℕ) → g ≤ i → i < g + n → kindAt p i ≡ free
+  pub clear : (i : ℕ) → g ≤ i → i < g + n → kindAt p i ≡ Free
 
 abbrev pub PlanOk : ℕ → Pool → Plan → Type 0
 PlanOk c p (Refuse r) = 1 ≤ r

@@ -5,7 +5,9 @@ use Prim.Native.Nat.{ℕ, zero, suc, _+_, _-_, _*_, _/_}
 use lib.Dec.{eqb, ltb, leb}
 use Rattle.bitrow.specs.Row.{nextBit}
 use Rattle.classes.specs.Classes.{size, slots, pages, classFor}
-use Rattle.records.specs.Kinds.{Kind, edge, free, damaged, large, class, inner, wordsOf}
+use Rattle.records.specs.declared.Kind.{Kind}
+use Rattle.records.specs.declared.Kind.the-variants.{Edge, Free, Damaged, Large, Class, Inner}
+use Rattle.records.specs.Kinds.{wordsOf}
 use Rattle.records.specs.Pool.{Pool, kindAt}
 use Rattle.records.specs.Calls.{admitOf, unless, Left, leaves}
 use Rattle.gaps.specs.declared.Found.{Found}
@@ -25,12 +27,12 @@ freeSlot bits b g = nextBit 0 bits (512 * g) (slots b) - 512 * g
 
 -- a run of class b starts at the page
 abbrev pub isRunOf : ℕ → Kind → Bool
-isRunOf b edge = false
-isRunOf b free = false
-isRunOf b damaged = false
-isRunOf b (large k) = false
-isRunOf b (class d) = eqb d b
-isRunOf b (inner w) = false
+isRunOf b Edge = false
+isRunOf b Free = false
+isRunOf b Damaged = false
+isRunOf b (Large k) = false
+isRunOf b (Class d) = eqb d b
+isRunOf b (Inner w) = false
 
 -- a run of class b that has a free slot starts at page g
 unfoldable pub hasSlot : Pool → ℕ → ℕ → Bool
@@ -75,8 +77,8 @@ plan c p n = cond (leb n 3072) (planSlot c p (classFor n)) (planLarge c (p .bits
 abbrev pub perform : Pool → Plan → Pool
 perform p (Refuse r) = p
 perform p (InRun g b s) = putSlot 1 p g s
-perform p (NewRun g b) = putSlot 1 (putRun 1 p g (wordsOf (class b))) g 0
-perform p (NewLarge g n) = putRun 1 p g (wordsOf (large (n - 1)))
+perform p (NewRun g b) = putSlot 1 (putRun 1 p g (wordsOf (Class b))) g 0
+perform p (NewLarge g n) = putRun 1 p g (wordsOf (Large (n - 1)))
 
 -- ---- what it answers
 

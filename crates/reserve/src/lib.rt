@@ -7,7 +7,8 @@ ghost use lib.ListN.{length, getD};
 ghost use lib.Seq.{sets};
 ghost use Rattle.bitrow.specs.Row.{putBits};
 ghost use Rattle.classes.specs.Classes.{size, pages};
-ghost use Rattle.records.specs.Kinds.{class, large, slotsOf, wordsOf};
+ghost use Rattle.records.specs.declared.Kind.the-variants.{Large, Class};
+ghost use Rattle.records.specs.Kinds.{slotsOf, wordsOf};
 ghost use Rattle.records.specs.Pool.{pool};
 ghost use Rattle.records.specs.Calls.{admitOf, leaves};
 ghost use Rattle.reserve.specs.Reserve.{freeSlot, slotPage, planSlot, planRun, planLarge, plan, perform, slotGiven, answer, attempt, reserveOf};
@@ -46,7 +47,7 @@ pub struct Reserved {
 
 // The number of the lowest free slot of the run of class b at page g, which has n slots; n where none is free.
 pub fn free_slot(slots: &[u64], g: usize, b: usize, n: usize) -> usize
-    requires { ⌜ (g < 8192) × (512 * g + 512 ≤ 64 * length (now slots)) × (n ≡ slotsOf (class b)) × (n ≤ 512) ⌝ }
+    requires { ⌜ (g < 8192) × (512 * g + 512 ≤ 64 * length (now slots)) × (n ≡ slotsOf (Class b)) × (n ≤ 512) ⌝ }
     ensures { λ r. ⌜ r ≡ freeSlot (now (slots .entry)) b g ⌝ }
 {
     bitrow::next_bit(slots, 512 * g, 512 * g + n, false) - 512 * g
@@ -54,7 +55,7 @@ pub fn free_slot(slots: &[u64], g: usize, b: usize, n: usize) -> usize
 
 // Whether a run of class b with a free slot starts at page g, by the page's word w and the first word of a run of class b.
 fn has_slot(w: u32, first: u32, slots: &[u64], g: usize, b: usize, n: usize) -> bool
-    requires { ⌜ (g < 8192) × (512 * g + 512 ≤ 64 * length (now slots)) × (n ≡ slotsOf (class b)) × (n ≤ 512) ⌝ }
+    requires { ⌜ (g < 8192) × (512 * g + 512 ≤ 64 * length (now slots)) × (n ≡ slotsOf (Class b)) × (n ≤ 512) ⌝ }
     ensures { λ r. ⌜ r ≡ (eqb w first && ltb (freeSlot (now (slots .entry)) b g) n) ⌝ }
 {
     if w != first {
@@ -65,7 +66,7 @@ fn has_slot(w: u32, first: u32, slots: &[u64], g: usize, b: usize, n: usize) -> 
 
 // The first page at which a run of class b with a free slot starts; behind the last page where there is none.
 fn slot_page(c: u64, bits: &[u64], words: &[u32], slots: &[u64], b: usize, n: usize) -> usize
-    requires { ⌜ (admitOf c (pool (now bits) (now words) (now slots)) ≡ 0) × (b < 30) × (n ≡ slotsOf (class b)) ⌝ }
+    requires { ⌜ (admitOf c (pool (now bits) (now words) (now slots)) ≡ 0) × (b < 30) × (n ≡ slotsOf (Class b)) ⌝ }
     ensures { λ r. ⌜ r ≡ slotPage (pool (now (bits .entry)) (now (words .entry)) (now (slots .entry))) b 0 (512 * c) ⌝ }
 {
     let first = 0x80000000 + (b as u32);
@@ -90,7 +91,7 @@ pub fn plan_slot(
     n: usize,
     g: usize,
 ) -> Plan
-    requires { ⌜ (admitOf c (pool (now bits) (now words) (now slots)) ≡ 0) × (b < 30) × (n ≡ slotsOf (class b)) × (g ≡ slotPage (pool (now bits) (now words) (now slots)) b 0 (512 * c)) ⌝ }
+    requires { ⌜ (admitOf c (pool (now bits) (now words) (now slots)) ≡ 0) × (b < 30) × (n ≡ slotsOf (Class b)) × (g ≡ slotPage (pool (now bits) (now words) (now slots)) b 0 (512 * c)) ⌝ }
     ensures { λ r. ⌜ r ≡ planSlot c (pool (now (bits .entry)) (now (words .entry)) (now (slots .entry))) b ⌝ }
 {
     if g < 512 * (c as usize) {
@@ -154,7 +155,7 @@ pub fn plan_for(c: u64, bits: &[u64], words: &[u32], slots: &[u64], n: u64) -> P
 // The words of a new run of class b, of n pages, from page g on.
 fn class_words(words: &mut [u32], g: usize, b: usize, n: usize)
     requires { ⌜ (g + n ≤ 8192) × (g + n ≤ length (now words)) × (b < 30) × (n ≡ pages b) ⌝ }
-    ensures { λ _. ⌜ now (words .exit) ≡ sets (now (words .entry)) g (wordsOf (class b)) ⌝ }
+    ensures { λ _. ⌜ now (words .exit) ≡ sets (now (words .entry)) g (wordsOf (Class b)) ⌝ }
 {
     words[g] = 0x80000000 + (b as u32);
     let mut k = 1;
@@ -179,7 +180,7 @@ fn new_run(bits: &mut [u64], words: &mut [u32], slots: &mut [u64], g: usize, b: 
 // A large run of n pages at page g. The pages were free, so only the first has a word to write.
 fn new_large(bits: &mut [u64], words: &mut [u32], g: usize, n: usize)
     requires { ⌜ (1 ≤ n) × (n ≤ 511) × (g + n ≤ 8192) × (g + n ≤ 64 * length (now bits)) × (g + n ≤ length (now words)) × ((i : ℕ) → g < i → i < g + n → getD (now words) i 0 ≡ 0) ⌝ }
-    ensures { λ _. ⌜ (now (bits .exit) ≡ putBits 1 (now (bits .entry)) g n) × (now (words .exit) ≡ sets (now (words .entry)) g (wordsOf (large (n - 1)))) ⌝ }
+    ensures { λ _. ⌜ (now (bits .exit) ≡ putBits 1 (now (bits .entry)) g n) × (now (words .exit) ≡ sets (now (words .entry)) g (wordsOf (Large (n - 1)))) ⌝ }
 {
     bitrow::put_bits(bits, g, n, true);
     words[g] = 0x40000000 + (n as u32);

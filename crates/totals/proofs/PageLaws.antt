@@ -10,7 +10,9 @@ use native.Mathlib.Omega.{arith}
 use lib.ListN.{length, getD}
 use borrow.Author.Tests.{ne-eqb}
 use Rattle.bitrow.specs.Row.{digit, bitAt, isSet, countBits}
-use Rattle.records.specs.Kinds.{Kind, edge, free, damaged, large, class, inner, kindOf}
+use Rattle.records.specs.declared.Kind.{Kind}
+use Rattle.records.specs.declared.Kind.the-variants.{Edge, Free, Damaged, Large, Class, Inner}
+use Rattle.records.specs.Kinds.{kindOf}
 use Rattle.records.specs.Pool.{Pool, isEdge, kindAt}
 use Rattle.records.specs.Sound.{step, sound}
 use Rattle.records.specs.Runs.{spanOf}
@@ -30,7 +32,7 @@ use Rattle.totals.proofs.TallyLaws.{digit-set}
 -- ---- free pages are those whose page bit is 0
 
 -- what holds of each kind that the word of a taken page other than page 0 can mean
-plain-kind : (P : Kind → Type 0) → P damaged → ((k : ℕ) → P (large k)) → ((b : ℕ) → P (class b)) → ((w : ℕ) → P (inner w)) → (w : ℕ)
+plain-kind : (P : Kind → Type 0) → P Damaged → ((k : ℕ) → P (Large k)) → ((b : ℕ) → P (Class b)) → ((w : ℕ) → P (Inner w)) → (w : ℕ)
     → P (kindOf false true w)
 plain-kind P d l c i w =
     le-cases P 0xC0000000 w (λ x. i w)
@@ -91,21 +93,21 @@ module _ (c : ℕ) (p : Pool) (n : ℕ) (e : n ≡ admitOf c p) where
 
 -- 1 for page 0 of a chunk
 abbrev edgeOf : Kind → ℕ
-edgeOf edge = 1
-edgeOf free = 0
-edgeOf damaged = 0
-edgeOf (large k) = 0
-edgeOf (class b) = 0
-edgeOf (inner w) = 0
+edgeOf Edge = 1
+edgeOf Free = 0
+edgeOf Damaged = 0
+edgeOf (Large k) = 0
+edgeOf (Class b) = 0
+edgeOf (Inner w) = 0
 
 -- A run's pages count where it begins: the pages whose words are due have been counted
 page-share : (st : List ℕ) (k : Kind) (due : List ℕ) → step st k ≡ some due → freeOf k + spanOf k + edgeOf k + length st ≡ suc (length due)
-page-share [] edge due e = let n : 0 ≡ length due = ap length (Option·some-injective _ _ e) in omega arith
-page-share [] free due e = let n : 0 ≡ length due = ap length (Option·some-injective _ _ e) in omega arith
-page-share [] damaged due e = absurd (Option·none-ne-some due e)
-page-share [] (large k) due e = let l = begins-run (large k) due e (omega arith) in omega arith
-page-share [] (class b) due e = let l = begins-run (class b) due e (omega arith) in omega arith
-page-share [] (inner w) due e = absurd (Option·none-ne-some due e)
+page-share [] Edge due e = let n : 0 ≡ length due = ap length (Option·some-injective _ _ e) in omega arith
+page-share [] Free due e = let n : 0 ≡ length due = ap length (Option·some-injective _ _ e) in omega arith
+page-share [] Damaged due e = absurd (Option·none-ne-some due e)
+page-share [] (Large k) due e = let l = begins-run (Large k) due e (omega arith) in omega arith
+page-share [] (Class b) due e = let l = begins-run (Class b) due e (omega arith) in omega arith
+page-share [] (Inner w) due e = absurd (Option·none-ne-some due e)
 page-share (w ∷ ws) k due e =
     let (p, q) = step-inner w ws k due e in
     let l : length due ≡ length ws = ap length q in

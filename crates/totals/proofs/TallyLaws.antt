@@ -15,7 +15,8 @@ use Rattle.bitrow.proofs.Counts.{count-le}
 use Rattle.classes.specs.declared.Row.{Row}
 use Rattle.classes.specs.Classes.{rowOf, rows, rowAt, size, slots}
 use Rattle.classes.proofs.ClassLaws.{any-row, size-read, slots-read}
-use Rattle.records.specs.Kinds.{Kind, edge, free, large, class, inner}
+use Rattle.records.specs.declared.Kind.{Kind}
+use Rattle.records.specs.declared.Kind.the-variants.{Edge, Free, Large, Class, Inner}
 use Rattle.records.specs.Pool.{Pool, kindAt, slotAt}
 use Rattle.records.specs.Sound.{sound}
 use Rattle.records.specs.Calls.{admitOf}
@@ -96,13 +97,13 @@ module _ (c : ℕ) (p : Pool) (ok : admitOf c p ≡ 0) (g : ℕ) (l : g < 512 * 
   whole = admitted c p ok .whole
 
   pub tally-edge : g % 512 ≡ 0 → tally 0 0 ≡ tallyOf (pageBlocks p g)
-  tally-edge e = nothing p g edge (page-edge c p whole g l e) refl
+  tally-edge e = nothing p g Edge (page-edge c p whole g l e) refl
 
   pub tally-high : 0xC0000000 ≤ getD (p .words) g 0 → tally 0 0 ≡ tallyOf (pageBlocks p g)
   tally-high h = none-tally p g (none-high p g h)
 
   pub tally-low : getD (p .words) g 0 < 0x40000001 → tally 0 0 ≡ tallyOf (pageBlocks p g)
-  tally-low a = ⊎-elim (λ h. nothing p g free h refl) (λ h. nothing p g (inner 0) h refl) (page-low c p whole g l a)
+  tally-low a = ⊎-elim (λ h. nothing p g Free h refl) (λ h. nothing p g (Inner 0) h refl) (page-low c p whole g l a)
 
   pub tally-large : g % 512 ≢ 0 → 0x40000001 ≤ getD (p .words) g 0 → getD (p .words) g 0 < 0x80000000
       → tally 1 (4096 * (getD (p .words) g 0 - 0x40000000)) ≡ tallyOf (pageBlocks p g)
@@ -110,7 +111,7 @@ module _ (c : ℕ) (p : Pool) (ok : admitOf c p ≡ 0) (g : ℕ) (l : g < 512 * 
   tally-large n a b =
       let (m, h) = page-large c p whole g l n a b in
       let r : 4096 * (getD (p .words) g 0 - 0x40000000) ≡ 4096 * suc (getD (p .words) g 0 - 0x40000001) + 0 = omega arith in
-      ap (tally 1) r ∙ kind-tally p g (large (getD (p .words) g 0 - 0x40000001)) h
+      ap (tally 1) r ∙ kind-tally p g (Large (getD (p .words) g 0 - 0x40000001)) h
 
   pub class-low : 0x80000000 ≤ getD (p .words) g 0 → getD (p .words) g 0 < 0xC0000000 → getD (p .words) g 0 < 0x8000001E
   class-low a b = page-class c p whole g l a b .0
@@ -126,7 +127,7 @@ module _ (c : ℕ) (p : Pool) (ok : admitOf c p ≡ 0) (g : ℕ) (l : g < 512 * 
       let bytes : z ≡ size (getD (p .words) g 0 - 0x80000000) = size-read (getD (p .words) g 0 - 0x80000000) e k in
       ap₂ tally (count ∙ sym (slots-length (p .slots) g (getD (p .words) g 0 - 0x80000000) 0 (slots (getD (p .words) g 0 - 0x80000000)) (512 * g) (omega arith)))
       (ap₂ _*_ count bytes ∙ sym (slots-given (p .slots) g (getD (p .words) g 0 - 0x80000000) 0 (slots (getD (p .words) g 0 - 0x80000000)) (512 * g) (omega arith)))
-      ∙ kind-tally p g (class (getD (p .words) g 0 - 0x80000000)) (page-class c p whole g l a b .1)
+      ∙ kind-tally p g (Class (getD (p .words) g 0 - 0x80000000)) (page-class c p whole g l a b .1)
 
 -- a run's slots are few, and so are their bytes
 pub slots-few : (b : ℕ) {r : Row} {s : ℕ} → r ≡ rowAt b → s ≡ r .slots → s ≤ 512

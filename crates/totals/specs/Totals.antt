@@ -2,7 +2,8 @@
 use mathlib.Core.List.{List, [], _∷_}
 use Prim.Native.Nat.{ℕ, zero, suc, _+_, _*_}
 use lib.ListN.{length}
-use Rattle.records.specs.Kinds.{Kind, edge, free, damaged, large, class, inner}
+use Rattle.records.specs.declared.Kind.{Kind}
+use Rattle.records.specs.declared.Kind.the-variants.{Edge, Free, Damaged, Large, Class, Inner}
 use Rattle.records.specs.Pool.{Pool, kindAt}
 use Rattle.records.specs.Calls.{admitOf, unless}
 use Rattle.records.specs.Runs.{spanOf}
@@ -26,12 +27,12 @@ sum f i (suc n) = f i + sum f (suc i) n
 
 -- 1 for a free page
 abbrev pub freeOf : Kind → ℕ
-freeOf edge = 0
-freeOf free = 1
-freeOf damaged = 0
-freeOf (large k) = 0
-freeOf (class b) = 0
-freeOf (inner w) = 0
+freeOf Edge = 0
+freeOf Free = 1
+freeOf Damaged = 0
+freeOf (Large k) = 0
+freeOf (Class b) = 0
+freeOf (Inner w) = 0
 
 -- the free pages of a pool of c chunks
 unfoldable pub freePages : ℕ → Pool → ℕ

@@ -5,7 +5,8 @@ use mathlib.Core.Bool.{true}
 use Prim.Native.Nat.{_+_, _-_, _*_, _≤_, _<_}
 use native.Mathlib.Omega.{arith}
 use Rattle.bitrow.specs.Row.{isSet}
-use Rattle.records.specs.Kinds.{class, slotsOf}
+use Rattle.records.specs.declared.Kind.the-variants.{Class}
+use Rattle.records.specs.Kinds.{slotsOf}
 use Rattle.census.specs.Writes.{slotBlocks}
 use Rattle.census.proofs.WriteLaws.{Writing, writing-none, writing-all}
 use Rattle.classes.proofs.ClassLaws.{Cut, cut, cut-few, cut-offset}
@@ -14,7 +15,7 @@ use Rattle.census.proofs.write_slots.Statement.{statement}
 use Rattle.census.proofs.write_slots.Tie as tie
 
 abbrev Inv-loop : tie.InvT-loop
-Inv-loop slots g b room₀ i size n k₀ s₀ room k s = (s ≤ n) × (s < n → isSet slots (512 * g + s) ≡ true) × Cut b size n × Writing room₀ i (slotBlocks slots g b 0 (slotsOf (class b))) room k (slotBlocks slots g b s (n - s))
+Inv-loop slots g b room₀ i size n k₀ s₀ room k s = (s ≤ n) × (s < n → isSet slots (512 * g + s) ≡ true) × Cut b size n × Writing room₀ i (slotBlocks slots g b 0 (slotsOf (Class b))) room k (slotBlocks slots g b s (n - s))
 
 abbrev μ-loop : tie.MeasureT-loop
 μ-loop slots g b room₀ i size n k₀ s₀ room k s = n - s

@@ -14,6 +14,9 @@ returns c = fresh-not _ _ _ (c .before .is-shaped .ensures) (not-true _ (c .if1 
 fill64-requires : tie.Need-fill64-requires
 fill64-requires c κs = search needs
 
+edge-word-requires : tie.Need-edge-word-requires
+edge-word-requires c κs = search needs
+
 fill32-requires : tie.Need-fill32-requires
 fill32-requires c κs = search needs
 
@@ -31,8 +34,10 @@ same-length-3 c = search needs
 
 returns-2 : tie.Need-returns-2
 returns-2 c =
-    fresh-made _ _ _ _ _ _ (c .before .before .before .before .before .before .before .before .before .before .before .before .before .is-shaped .ensures) (not-false _ (c .before .before .before .before .before .before .before .before .before .before .before .before .if1 .left))
-    (c .before .before .before .before .before .before .before .before .before .before .fill64 .ensures) (c .before .before .before .before .before .before .fill32 .ensures) (c .before .before .fill642 .ensures)
+    let d = c .before .before .before .before .before .before .before in
+    let e = d .before .before .before .before .before .before in
+    fresh-made _ _ _ _ _ _ (e .before .is-shaped .ensures) (not-false _ (e .if1 .left)) (d .before .before .before .before .fill64 .ensures)
+    (d .edge-word .ensures) (c .before .before .before .before .before .before .fill32 .ensures) (c .before .before .fill642 .ensures)
 
 pub fresh-spec : {M : Type 1} → statement M
 fresh-spec =
@@ -41,6 +46,7 @@ fresh-spec =
     is-shaped-requires
     returns
     fill64-requires
+    edge-word-requires
     fill32-requires
     fill64-requires-2
     same-length
