@@ -1,7 +1,12 @@
 -- What the words that are written mean, and what a taken page that begins nothing is. Assumes nothing.
 use mathlib.Core.Path.{_≡_, refl, ap, _∙_}
-use mathlib.Core.Logic.{_≢_}
+use mathlib.Core.Logic.{_≢_, inl, inr}
 use mathlib.Core.Bool.{true, false, cond}
+use mathlib.Core.List.{[], _∷_}
+use types.Run.{OneOf}
+use denote.Enum.Declared.{tagOf}
+use Rattle.records.proofs.Kind.{the-type}
+use Rattle.records.specs.declared.Kind.{Kind}
 use Prim.Native.Nat.{ℕ, zero, suc, _+_, _-_, _*_, _≤_, _<_}
 use native.Mathlib.Omega.{arith}
 use lib.Dec.{eqb, ltb}
@@ -71,3 +76,29 @@ kind-no-large w h l = large-word w (omega arith) l ∙ cond-nlt w 0x40000200 _ _
 
 pub kind-no-low : (w : ℕ) → w ≢ 0 → w < 0x40000001 → kindOf false true w ≡ Damaged
 kind-no-low w n l = low-word w l ∙ cond-ne w 0 _ _ n
+
+-- ---- a match on the kind of a page
+
+-- no block begins at the page
+abbrev pub Bare : Kind → Type 0
+Bare Edge = Unit {0}
+Bare Free = Unit {0}
+Bare Damaged = Unit {0}
+Bare (Large k) = ⊥
+Bare (Class b) = ⊥
+Bare (Inner w) = Unit {0}
+
+between : (n : ℕ) → 2 < n → n < 5 → OneOf (0 ∷ 1 ∷ 2 ∷ 5 ∷ []) n → ⊥
+between n a b (inl e) = omega arith
+between n a b (inr (inl e)) = omega arith
+between n a b (inr (inr (inl e))) = omega arith
+between n a b (inr (inr (inr e))) = omega arith
+
+-- what a match tells where it has an arm each for the first pages of large runs and of class runs, and one for all other kinds
+pub others-bare : (k : Kind) → OneOf (0 ∷ 1 ∷ 2 ∷ 5 ∷ []) (tagOf the-type k) → Bare k
+others-bare Edge h = tt
+others-bare Free h = tt
+others-bare Damaged h = tt
+others-bare (Large k) h = between 3 (omega arith) (omega arith) h
+others-bare (Class b) h = between 4 (omega arith) (omega arith) h
+others-bare (Inner w) h = tt

@@ -43,12 +43,12 @@ mid-off p g m e =
     no-mid-edge (isSet (p .bits) g) (getD (p .words) g 0)
     (subst (λ (v : Bool). Mid (kindOf v (isSet (p .bits) g) (getD (p .words) g 0))) (eq-eqb (g % 512) 0 e) m)
 
--- there are 30 classes
+-- there are 30 classes, and a large run has at most 511 pages
 abbrev Low : Kind → Type 0
 Low Edge = Unit {0}
 Low Free = Unit {0}
 Low Damaged = Unit {0}
-Low (Large k) = Unit {0}
+Low (Large k) = k < 511
 Low (Class b) = b < 30
 Low (Inner w) = Unit {0}
 
@@ -59,11 +59,17 @@ kind-low false false w = eq-cases Low w 0 (λ a. tt) (λ a. tt)
 kind-low false true w =
     le-cases Low 0xC0000000 w (λ a. tt)
     (λ a. le-cases Low 0x80000000 w (λ b. lt-cases Low w 0x8000001E (λ d. omega arith) (λ d. tt))
-    (λ b. le-cases Low 0x40000001 w (λ d. lt-cases Low w 0x40000200 (λ e. tt) (λ e. tt)) (λ d. eq-cases Low w 0 (λ e. tt) (λ e. tt))))
+    (λ b. le-cases Low 0x40000001 w (λ d. lt-cases Low w 0x40000200 (λ e. omega arith) (λ e. tt)) (λ d. eq-cases Low w 0 (λ e. tt) (λ e. tt))))
+
+page-low : (p : Pool) (g : ℕ) → Low (kindAt p g)
+unfolding kindAt
+page-low p g = kind-low (isEdge g) (isSet (p .bits) g) (getD (p .words) g 0)
 
 pub class-at-low : (p : Pool) (g b : ℕ) → kindAt p g ≡ Class b → b < 30
-unfolding kindAt
-class-at-low p g b e = subst Low e (kind-low (isEdge g) (isSet (p .bits) g) (getD (p .words) g 0))
+class-at-low p g b e = subst Low e (page-low p g)
+
+pub large-at-low : (p : Pool) (g k : ℕ) → kindAt p g ≡ Large k → k < 511
+large-at-low p g k e = subst Low e (page-low p g)
 
 -- ---- a run's pages
 
@@ -231,3 +237,7 @@ pub lies-back : (c : ℕ) (p : Pool) → sound c p ≡ true → (g : ℕ) → g 
     → k ≡ (getD (p .words) g 0 - 0xC0000000) / 65536 → b ≡ getD (p .words) g 0 % 65536 → (k ≤ g) × Lies p g (g - k) (Class b)
 lies-back c p s g l k b h e f =
     let (a, q, r) = sound-runs c p s .back g k b l (omega arith) (omega arith) in (a, record { is = sym q; by = r })
+
+-- in the arm of a match: the kind that was told is this one
+pub lies-as : {p : Pool} {g f : ℕ} {j k : Kind} → j ≡ k → Lies p g f j → Lies p g f k
+lies-as {p} {g} {f} e r = subst (Lies p g f) e r

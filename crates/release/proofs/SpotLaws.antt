@@ -1,4 +1,4 @@
--- What starts at a place, by the word of the page that it lies in. Assumes nothing.
+-- What starts at a place, by what the place lies in. Assumes nothing.
 use mathlib.Core.Path.{_≡_, refl, sym, ap, ap₂, _∙_, subst}
 use mathlib.Core.Logic.{_≢_, ⊎-elim}
 use mathlib.Core.Bool.{Bool, true, false, cond}
@@ -17,12 +17,11 @@ use Rattle.records.specs.Kinds.{behind}
 use Rattle.records.specs.Pool.{Pool, kindAt}
 use Rattle.records.specs.Sound.{step, sound}
 use Rattle.records.specs.Calls.{admitOf}
-use Rattle.records.specs.Runs.{spanOf, InRun}
+use Rattle.records.specs.Runs.{spanOf, InRun, Lies}
 use Rattle.records.proofs.Flags.{cond-eq, cond-ne, cond-lt, cond-nlt}
-use Rattle.records.proofs.KindLaws.{length-zeros, length-inner, getD-inner}
+use Rattle.records.proofs.KindLaws.{length-zeros, length-inner, getD-inner, Bare}
 use Rattle.records.proofs.WalkLaws.{walk, Home, sound-walks, walk-home}
-use Rattle.records.proofs.RunLaws.{walk-run, class-at-low, sound-runs}
-use Rattle.records.proofs.WordLaws.{page-class, page-large, page-low, page-edge}
+use Rattle.records.proofs.RunLaws.{walk-run, class-at-low}
 use Rattle.records.proofs.AdmitLaws.{admitted}
 use Rattle.release.specs.declared.Spot.the-variants.{Nowhere, Run, Slot}
 use Rattle.release.specs.Release.{isInner, firstPage, slotSpot, spotIn, spotFrom, spot}
@@ -104,62 +103,49 @@ module _ (c : ℕ) (p : Pool) (ok : admitOf c p ≡ 0) (q : ℕ) (l : q / 4096 <
       sym (cond-lt (q / 4096) (512 * c) (spotFrom p q (firstPage p (q / 4096))) (Nowhere 5) l ∙ ap (spotFrom p q) e
       ∙ ap (spotIn p f (q - 4096 * f)) h)
 
-  -- the page is the first of what it lies in
-  spot-here : (k : Kind) → kindAt p (q / 4096) ≡ k → isInner k ≡ false → spotIn p (q / 4096) (q - 4096 * (q / 4096)) k ≡ spot c p q
-  spot-here k e h = spot-in (q / 4096) k (first-self p (q / 4096) (ap isInner e ∙ h)) e
+  -- page f tells what the place lies in
+  module _ (f : ℕ) where
+    -- it is the place's own page, and not inside a run
+    spot-self : (k : Kind) → f ≡ q / 4096 → k ≡ kindAt p f → isInner k ≡ false → spotIn p f (q - 4096 * f) k ≡ spot c p q
+    spot-self k e h z = spot-in f k (ap (firstPage p) (sym e) ∙ first-self p f (ap isInner (sym h) ∙ z)) (sym h)
 
-  pub spot-edge : q / 4096 % 512 ≡ 0 → Nowhere 5 ≡ spot c p q
-  spot-edge e = spot-here Edge (page-edge c p whole (q / 4096) l e) refl
+    pub lies-class : (b : ℕ) → Lies p (q / 4096) f (Class b)
+        → (f < 512 * c) × (b < 30) × (4096 * f ≤ q) × (slotSpot (p .slots) f b (q - 4096 * f) ≡ spot c p q)
+    lies-class b r =
+        let i = r .by in let a = i .low in
+        (omega arith, class-at-low p f b (sym (r .is)), omega arith,
+        spot-in f (Class b) (in-run c p whole f (q / 4096) (omega arith) i) (sym (r .is)))
 
-  -- the offset and the class in the word of a page inside a class run
-  pub spot-inner : (w f : ℕ) → w ≡ getD (p .words) (q / 4096) 0 → 0xC0000000 ≤ w → f ≡ q / 4096 - (w - 0xC0000000) / 65536
-      → ((w - 0xC0000000) / 65536 ≤ q / 4096) × (w % 65536 < 30) × (slotSpot (p .slots) f (w % 65536) (q - 4096 * f) ≡ spot c p q)
-  spot-inner w f e a r =
-      let k : ℕ = (w - 0xC0000000) / 65536 in
-      let word : getD (p .words) (q / 4096) 0 ≡ 0xC0000000 + 65536 * ((w - 0xC0000000) / 65536) + w % 65536 = sym e ∙ omega arith in
-      let (n, h, i) = sound-runs c p whole .back (q / 4096) ((w - 0xC0000000) / 65536) (w % 65536) l (omega arith) word in
-      let kind : kindAt p f ≡ Class (w % 65536) = ap (kindAt p) r ∙ h in
-      let inside : InRun p f (q / 4096) = subst (λ (x : ℕ). InRun p x (q / 4096)) (sym r) i in
-      (n, class-at-low p f (w % 65536) kind, spot-in f (Class (w % 65536)) (in-run c p whole f (q / 4096) (omega arith) inside) kind)
+    pub lies-first : (k : ℕ) → Lies p (q / 4096) f (Large k) → q % 4096 ≡ 0 → (n : ℕ) → n ≡ suc k → Run f n ≡ spot c p q
+    lies-first k r z n e =
+        let s = r .by in
+        ap (Run f) e ∙ sym (cond-eq (q - 4096 * f) 0 _ _ (omega arith)) ∙ spot-self (Large k) s (r .is) refl
 
-  pub spot-class : 0x80000000 ≤ getD (p .words) (q / 4096) 0 → getD (p .words) (q / 4096) 0 < 0xC0000000
-      → (getD (p .words) (q / 4096) 0 < 0x8000001E)
-      × (slotSpot (p .slots) (q / 4096) (getD (p .words) (q / 4096) 0 - 0x80000000) (q - 4096 * (q / 4096)) ≡ spot c p q)
-  spot-class a b =
-      let (n, h) = page-class c p whole (q / 4096) l a b in
-      (n, spot-here (Class (getD (p .words) (q / 4096) 0 - 0x80000000)) h refl)
+    pub lies-behind : (k : ℕ) → Lies p (q / 4096) f (Large k) → q % 4096 ≢ 0 → Nowhere 5 ≡ spot c p q
+    lies-behind k r z = let s = r .by in sym (cond-ne (q - 4096 * f) 0 _ _ (omega arith)) ∙ spot-self (Large k) s (r .is) refl
 
-  -- a free page, or a page inside a large run
-  pub spot-low : getD (p .words) (q / 4096) 0 < 0x40000001 → Nowhere 5 ≡ spot c p q
-  spot-low a =
-      ⊎-elim (λ h. spot-here Free h refl)
-      (λ h. ⊎-elim (λ x. absurd (omega (arith, x .0))) (λ x. inside x)
-      (walk-home (kindAt p) (512 * c) [] 0 (q / 4096) 0 (sound-walks c p whole .walks) (omega arith) (omega arith) h))
-      (page-low c p whole (q / 4096) l a)
-    where
-      inside : Home (kindAt p) 0 (q / 4096) 0 → Nowhere 5 ≡ spot c p q
-      inside h =
-          let (n, e, u) = large-home c p whole (q / 4096) h (kindAt p (h .first)) refl (h .begins) in
-          let b = h .below in
-          let span : spanOf (kindAt p (h .first)) ≡ suc n = ap spanOf e in
-          let r : InRun p (h .first) (q / 4096) = record { low = omega arith; high = omega arith } in
-          sym (cond-ne (q - 4096 * h .first) 0 (Run (h .first) (suc n)) (Nowhere 5) (omega arith))
-          ∙ spot-in (h .first) (Large n) (in-run c p whole (h .first) (q / 4096) (omega arith) r) e
+    -- a page inside a large run
+    lies-inside : f ≡ q / 4096 → kindAt p f ≡ Inner 0 → Nowhere 5 ≡ spot c p q
+    lies-inside e x =
+        ⊎-elim (λ y. absurd (omega (arith, y .0))) (λ y. inside y)
+        (walk-home (kindAt p) (512 * c) [] 0 (q / 4096) 0 (sound-walks c p whole .walks) (omega arith) (omega arith) (ap (kindAt p) (sym e) ∙ x))
+      where
+        inside : Home (kindAt p) 0 (q / 4096) 0 → Nowhere 5 ≡ spot c p q
+        inside h =
+            let (n, e, u) = large-home c p whole (q / 4096) h (kindAt p (h .first)) refl (h .begins) in
+            let b = h .below in
+            let span : spanOf (kindAt p (h .first)) ≡ suc n = ap spanOf e in
+            let r : InRun p (h .first) (q / 4096) = record { low = omega arith; high = omega arith } in
+            sym (cond-ne (q - 4096 * h .first) 0 (Run (h .first) (suc n)) (Nowhere 5) (omega arith))
+            ∙ spot-in (h .first) (Large n) (in-run c p whole (h .first) (q / 4096) (omega arith) r) e
 
-  -- a large run's first page
-  large-here : q / 4096 % 512 ≢ 0 → 0x40000001 ≤ getD (p .words) (q / 4096) 0 → getD (p .words) (q / 4096) 0 < 0x80000000
-      → cond (eqb (q - 4096 * (q / 4096)) 0) (Run (q / 4096) (suc (getD (p .words) (q / 4096) 0 - 0x40000001))) (Nowhere 5) ≡ spot c p q
-  large-here n a b = let (m, h) = page-large c p whole (q / 4096) l n a b in spot-here (Large (getD (p .words) (q / 4096) 0 - 0x40000001)) h refl
-
-  pub spot-large-inside : q / 4096 % 512 ≢ 0 → 0x40000001 ≤ getD (p .words) (q / 4096) 0 → getD (p .words) (q / 4096) 0 < 0x80000000 → q % 4096 ≢ 0
-      → Nowhere 5 ≡ spot c p q
-  spot-large-inside n a b z = sym (cond-ne (q - 4096 * (q / 4096)) 0 _ _ (omega arith)) ∙ large-here n a b
-
-  pub spot-large : q / 4096 % 512 ≢ 0 → 0x40000001 ≤ getD (p .words) (q / 4096) 0 → getD (p .words) (q / 4096) 0 < 0x80000000 → q % 4096 ≡ 0
-      → (m : ℕ) → m ≡ getD (p .words) (q / 4096) 0 - 0x40000000 → Run (q / 4096) m ≡ spot c p q
-  spot-large n a b z m e =
-      let r : m ≡ suc (getD (p .words) (q / 4096) 0 - 0x40000001) = omega arith in
-      ap (Run (q / 4096)) r ∙ sym (cond-eq (q - 4096 * (q / 4096)) 0 _ _ (omega arith)) ∙ large-here n a b
+    pub lies-bare : (k : Kind) → Bare k → Lies p (q / 4096) f k → Nowhere 5 ≡ spot c p q
+    lies-bare Edge h r = spot-self Edge (r .by) (r .is) refl
+    lies-bare Free h r = spot-self Free (r .by) (r .is) refl
+    lies-bare Damaged h r = spot-self Damaged (r .by) (r .is) refl
+    lies-bare (Large k) h r = absurd h
+    lies-bare (Class b) h r = absurd h
+    lies-bare (Inner w) h r = lies-inside (r .by .0) (sym (r .is) ∙ ap Inner (r .by .1))
 
 -- ---- a slot
 

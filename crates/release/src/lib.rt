@@ -53,8 +53,7 @@ pub fn slot_spot(slots: &[u64], g: usize, b: usize, off: usize, bytes: usize, co
     Spot::Nowhere(6)
 }
 
-// What the place q lies in, by its page's word. A page inside a class run has the run's first page in its word; one inside a large run
-// starts nothing.
+// What the place q lies in.
 pub fn area_at(c: u64, bits: &[u64], words: &[u32], slots: &[u64], q: u64) -> Area
     requires { ⌜ admitOf c (pool (now bits) (now words) (now slots)) ≡ 0 ⌝ }
     ensures { λ r. ⌜ Leads c (pool (now (bits .entry)) (now (words .entry)) (now (slots .entry))) q r ⌝ }
@@ -63,27 +62,23 @@ pub fn area_at(c: u64, bits: &[u64], words: &[u32], slots: &[u64], q: u64) -> Ar
         return Area::Bare;
     }
     let at = q as usize;
-    let g = at / 4096;
-    if g % 512 == 0 {
-        return Area::Bare;
+    let home = records::home_at(c, bits, words, slots, at / 4096);
+    let g = home.first;
+    let kind = home.kind;
+    match kind {
+        records::Kind::Class(b) => {
+            return Area::Class(g, b);
+        }
+        records::Kind::Large(k) => {
+            if at % 4096 == 0 {
+                return Area::Large(g, k + 1);
+            }
+            return Area::Bare;
+        }
+        _ => {
+            return Area::Bare;
+        }
     }
-    let w = words[g];
-    if 0xC0000000 <= w {
-        let k = ((w - 0xC0000000) / 65536) as usize;
-        let b = (w % 65536) as usize;
-        let f = g - k;
-        return Area::Class(f, b);
-    }
-    if 0x80000000 <= w {
-        return Area::Class(g, (w - 0x80000000) as usize);
-    }
-    if w < 0x40000001 {
-        return Area::Bare;
-    }
-    if at % 4096 != 0 {
-        return Area::Bare;
-    }
-    Area::Large(g, (w - 0x40000000) as usize)
 }
 
 // What starts at the place q.

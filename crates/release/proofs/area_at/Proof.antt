@@ -1,64 +1,53 @@
 -- `release::area_at` meets its contract. Assumes nothing.
-use Prim.Native.Nat.{_/_}
-use Rattle.records.proofs.AdmitLaws.{admitted}
-use Rattle.release.proofs.SpotLaws.{spot-outside, spot-edge, spot-inner, spot-class, spot-low, spot-large-inside, spot-large}
-use borrow.Author.Needs.{needs}
-use mathlib.Core.Path.{refl}
+use mathlib.Core.Path.{sym, subst}
+use Prim.Native.Nat.{ℕ}
 use native.Mathlib.Omega.{arith}
+use Rattle.records.proofs.AdmitLaws.{admitted}
+use Rattle.records.proofs.KindLaws.{others-bare}
+use Rattle.records.proofs.RunLaws.{large-at-low, lies-as}
+use Rattle.release.proofs.SpotLaws.{spot-outside, lies-class, lies-first, lies-behind, lies-bare}
+use borrow.Author.Needs.{needs}
 use Rattle.release.proofs.area_at.Statement.{statement}
 use Rattle.release.proofs.area_at.Tie as tie
 
 mul-if1 : tie.Need-mul-if1
-mul-if1 c = let s = admitted _ _ (c .pre) .shape in record { fits = omega arith }
+mul-if1 c = let s = admitted _ _ (c .before .before .before .pre) .shape in record { fits = omega arith }
 
 returns : tie.Need-returns
 returns c = spot-outside _ _ _ (c .if1 .taken)
 
+home-at-requires : tie.Need-home-at-requires
+home-at-requires c κs = search needs
+
+enum-known-kind : tie.Need-enum-known-kind
+enum-known-kind c = search needs
+
 returns-2 : tie.Need-returns-2
-returns-2 c = spot-edge _ _ (c .before .before .pre) _ (c .before .if1 .left) (c .if2 .taken)
+returns-2 c =
+    let d = c .before .before .before in
+    lies-class _ _ (d .before .before .before .before .before .pre) _ (omega arith) _ _ (lies-as (c .before .kind .given .1) (d .home-at .ensures))
 
-mul-w : tie.Need-mul-w
-mul-w c = search needs
+enum-known-kind-2 : tie.Need-enum-known-kind-2
+enum-known-kind-2 c = search needs
 
-shared-slice-read-w : tie.Need-shared-slice-read-w
-shared-slice-read-w c = let s = admitted _ _ (c .before .before .before .pre) .shape in omega arith
-
-cast-k : tie.Need-cast-k
-cast-k c = record { fits = omega (arith, c .before .shared-slice-known .given (c .before .before .before .before .args .q / 4096) .fits) }
-
-cast-b : tie.Need-cast-b
-cast-b c = search needs
-
-sub-f : tie.Need-sub-f
-sub-f c = let i = spot-inner _ _ (c .before .before .before .before .pre) _ (omega arith) _ _ refl (c .if3 .taken) refl in i .0
+add-t18 : tie.Need-add-t18
+add-t18 c = let d = c .before .before .before .before in
+    let k = large-at-low _ _ _ (sym (lies-as (c .before .before .kind2 .given .1) (d .home-at .ensures) .is)) in record { fits = omega arith }
 
 returns-3 : tie.Need-returns-3
 returns-3 c =
-    let i = spot-inner _ _ (c .before .before .before .before .pre) _ (omega arith) _ _ refl (c .if3 .taken) refl in
-    (omega arith, i .1, omega arith, i .2)
-
-cast-t21 : tie.Need-cast-t21
-cast-t21 c = search needs
+    let d = c .before .before .before .before in
+    lies-first _ _ (d .before .before .before .before .before .pre) _ (omega arith) _ _ (lies-as (c .before .before .kind2 .given .1) (d .home-at .ensures)) (c .if2 .taken) _ (omega arith)
 
 returns-4 : tie.Need-returns-4
 returns-4 c =
-    let i = spot-class _ _ (c .before .before .before .before .before .pre) _ (omega arith) (c .if4 .taken) (c .before .if3 .left) in
-    (omega arith, omega (arith, i .0), omega arith, i .1)
+    let d = c .before .before .before .before in
+    lies-behind _ _ (d .before .before .before .before .before .pre) _ (omega arith) _ _ (lies-as (c .before .before .kind2 .given .1) (d .home-at .ensures)) (c .if2 .left)
 
 returns-5 : tie.Need-returns-5
-returns-5 c = spot-low _ _ (c .before .before .before .before .before .before .pre) _ (omega arith) (c .if5 .taken)
-
-returns-6 : tie.Need-returns-6
-returns-6 c = spot-large-inside _ _ (c .before .before .before .before .before .before .before .pre) _ (omega arith) (c .before .before .before .before .before .if2 .left) (c .before .if5 .left) (c .before .before .if4 .left) (c .if6 .taken)
-
-sub-t17 : tie.Need-sub-t17
-sub-t17 c = search needs
-
-cast-t15 : tie.Need-cast-t15
-cast-t15 c = search needs
-
-returns-7 : tie.Need-returns-7
-returns-7 c = spot-large _ _ (c .before .before .before .before .before .before .before .pre) _ (omega arith) (c .before .before .before .before .before .if2 .left) (c .before .if5 .left) (c .before .before .if4 .left) (c .if6 .left) _ refl
+returns-5 c =
+    let d = c .before in
+    lies-bare _ _ (d .before .before .before .before .before .pre) _ (omega arith) _ _ (others-bare (d .home-at .result .kind) (c .match .keys3)) (d .home-at .ensures)
 
 pub area-at-spec : {M : Type 1} → statement M
 area-at-spec =
@@ -66,17 +55,11 @@ area-at-spec =
     (tie.spec
     mul-if1
     returns
+    home-at-requires
+    enum-known-kind
     returns-2
-    mul-w
-    shared-slice-read-w
-    cast-k
-    cast-b
-    sub-f
+    enum-known-kind-2
+    add-t18
     returns-3
-    cast-t21
     returns-4
-    returns-5
-    returns-6
-    sub-t17
-    cast-t15
-    returns-7)
+    returns-5)
