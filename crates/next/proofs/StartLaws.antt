@@ -3,7 +3,10 @@ use mathlib.Core.Path.{_≡_, refl, sym, ap, _∙_, subst}
 use mathlib.Core.Logic.{_≢_, by-cases}
 use mathlib.Core.Bool.{true}
 use mathlib.Core.Option.{Option·some-injective}
-use mathlib.Core.List.{List, [], _++_, append-nil, append-assoc}
+use types.Run.{OneOf}
+use denote.Enum.Declared.{tagOf}
+use Rattle.records.proofs.Kind.{the-type}
+use mathlib.Core.List.{List, [], _∷_, _++_, append-nil, append-assoc}
 use Prim.Native.Nat.{ℕ, zero, suc, _+_, _-_, _*_, _/_, _%_, _≤_, _<_}
 use native.Mathlib.Decide.{decLt, decLe}
 use native.Mathlib.Nat.{mul-le-mul-right, div-add-mod', mod-lt}
@@ -12,16 +15,16 @@ use lib.ListN.{getD}
 use Rattle.classes.specs.Classes.{size, slots}
 use Rattle.classes.proofs.ClassLaws.{any-row}
 use Rattle.records.specs.declared.Kind.{Kind}
-use Rattle.records.specs.declared.Kind.the-variants.{Edge, Class, Inner}
-use Rattle.records.specs.Kinds.{behind, innerWords}
+use Rattle.records.specs.declared.Kind.the-variants.{Edge, Free, Damaged, Large, Class, Inner}
+use Rattle.records.specs.Kinds.{behind, innerWord, innerWords}
 use Rattle.records.specs.Pool.{Pool, kindAt, slotAt}
 use Rattle.records.specs.Sound.{step, sound}
 use Rattle.records.specs.Calls.{admitOf}
-use Rattle.records.specs.Runs.{spanOf, InRun}
-use Rattle.records.proofs.KindLaws.{getD-inner}
+use Rattle.records.specs.Runs.{spanOf, InRun, LiesBy, Lies}
+use Rattle.records.proofs.KindLaws.{getD-inner, not-one-of}
 use Rattle.records.proofs.WalkLaws.{walk, sound-walks}
 use Rattle.records.proofs.RunLaws.{walk-run, class-at-low, sound-runs}
-use Rattle.records.proofs.WordLaws.{page-word, page-class, page-edge}
+use Rattle.records.proofs.WordLaws.{page-edge}
 use Rattle.records.proofs.AdmitLaws.{admitted}
 use Rattle.blocks.specs.Blocks.{Block, slotBlock, flat, when, live, pageBlocks}
 use Rattle.blocks.proofs.FlatLaws.{flat-split}
@@ -120,6 +123,34 @@ behind-few : (b : ℕ) → behind b ≤ 7
 unfolding behind
 behind-few b = let h = any-row b .pages-most in omega arith
 
+-- a page of no class run
+abbrev pub Alone : Kind → Type 0
+Alone Edge = Unit {0}
+Alone Free = Unit {0}
+Alone Damaged = Unit {0}
+Alone (Large k) = Unit {0}
+Alone (Class b) = ⊥
+Alone (Inner w) = w ≡ 0
+
+-- what a match tells where it has an arm for class runs and one for page 0, and one for all other kinds
+pub record Other (p : Pool) (g : ℕ) : Type 0 where
+  pub alone : Alone (kindAt p g)
+  pub off : kindAt p g ≢ Edge
+
+pub others-alone : {p : Pool} {g f : ℕ} (k : Kind) → OneOf (1 ∷ 2 ∷ 3 ∷ 5 ∷ []) (tagOf the-type k) → Lies p g f k → Other p g
+others-alone {p} {g} {f} k h r = go k h (r .is) (r .by)
+  where
+    made : (j : Kind) → j ≡ kindAt p f → f ≡ g → Alone j → j ≢ Edge → Other p g
+    made j e s a n = let x : j ≡ kindAt p g = e ∙ ap (kindAt p) s in record { alone = subst Alone x a; off = λ y. n (x ∙ y) }
+
+    go : (j : Kind) → OneOf (1 ∷ 2 ∷ 3 ∷ 5 ∷ []) (tagOf the-type j) → j ≡ kindAt p f → LiesBy p g f j → Other p g
+    go Edge x e s = absurd (not-one-of 0 x (omega arith) (omega arith) (omega arith) (omega arith))
+    go Free x e s = made Free e s tt (λ y. let z : _≡_ {A = ℕ} 0 1 = cc in omega arith)
+    go Damaged x e s = made Damaged e s tt (λ y. let z : _≡_ {A = ℕ} 0 1 = cc in omega arith)
+    go (Large n) x e s = made (Large n) e s tt (λ y. let z : _≡_ {A = ℕ} 0 1 = cc in omega arith)
+    go (Class b) x e s = absurd (not-one-of 4 x (omega arith) (omega arith) (omega arith) (omega arith))
+    go (Inner w) x e s = made (Inner w) e (s .0) (s .1) (λ y. let z : _≡_ {A = ℕ} 0 1 = cc in omega arith)
+
 module _ (c : ℕ) (p : Pool) (ok : admitOf c p ≡ 0) (q : ℕ) where
   whole : sound c p ≡ true
   whole = admitted c p ok .whole
@@ -136,24 +167,24 @@ module _ (c : ℕ) (p : Pool) (ok : admitOf c p ≡ 0) (q : ℕ) where
       let w = walk-run (kindAt p) (512 * c) i steps l (omega arith) .ends in omega arith))
 
   module _ (l : q / 4096 < 512 * c) where
-    -- a page that a class run goes over has a high word
-    over-high : (i b : ℕ) → kindAt p i ≡ Class b → i < q / 4096 → q / 4096 < i + suc (behind b) → 0xC0000000 ≤ getD (p .words) (q / 4096) 0
-    over-high i b e x y =
+    -- the word of a page that a class run goes over is not 0
+    over-inner : (i b : ℕ) → kindAt p i ≡ Class b → i < q / 4096 → q / 4096 < i + suc (behind b)
+        → kindAt p (q / 4096) ≡ Inner (innerWord b (1 + (q / 4096 - suc i)))
+    over-inner i b e x y =
         let s : spanOf (kindAt p i) ≡ suc (behind b) = ap spanOf e in
         let w = walk-run (kindAt p) (512 * c) i steps (omega arith) (omega arith) in
         let z : innerWords b 1 (behind b) ≡ w .due = Option·some-injective _ _ (ap (step []) (sym e) ∙ w .begins) in
-        let v : getD (p .words) (q / 4096) 0 ≡ 0xC0000000 + 65536 * (1 + (q / 4096 - suc i)) + b =
-        page-word p (q / 4096) (w .rest (q / 4096) x (omega arith) ∙ ap (λ (l : List ℕ). Inner (getD l (q / 4096 - suc i) 0)) (sym z)
-        ∙ ap Inner (getD-inner b 1 (behind b) (q / 4096 - suc i) (omega arith))) in
-        omega arith
+        w .rest (q / 4096) x (omega arith) ∙ ap (λ (l : List ℕ). Inner (getD l (q / 4096 - suc i) 0)) (sym z)
+        ∙ ap Inner (getD-inner b 1 (behind b) (q / 4096 - suc i) (omega arith))
 
-    -- the pages before, where no class run goes over the place's page
-    before : getD (p .words) (q / 4096) 0 < 0xC0000000 → (i : ℕ) → i < q / 4096 → Skips q (pageBlocks p i)
+    -- the pages before, where the place's page is of no class run
+    before : Alone (kindAt p (q / 4096)) → (i : ℕ) → i < q / 4096 → Skips q (pageBlocks p i)
     before h i x =
         pool-below p q i (omega arith)
-        (λ b e. by-cases (decLt (q / 4096) (i + suc (behind b))) (λ y. absurd (omega (arith, over-high i b e x y))) (λ y. omega arith))
+        (λ b e. by-cases (decLt (q / 4096) (i + suc (behind b)))
+        (λ y. let z : innerWord b (1 + (q / 4096 - suc i)) ≡ 0 = subst Alone (over-inner i b e x y) h in absurd (omega arith)) (λ y. omega arith))
 
-    behind-start : (g : ℕ) → g ≡ q / 4096 + 1 → getD (p .words) (q / 4096) 0 < 0xC0000000 → Skips q (pageBlocks p (q / 4096)) → Started c p q g 0
+    behind-start : (g : ℕ) → g ≡ q / 4096 + 1 → Alone (kindAt p (q / 4096)) → Skips q (pageBlocks p (q / 4096)) → Started c p q g 0
     behind-start g r h k =
         record {
           low = omega arith;
@@ -165,26 +196,23 @@ module _ (c : ℕ) (p : Pool) (ok : admitOf c p ≡ 0) (q : ℕ) where
         }
 
     -- page 0 of a chunk
-    pub start-edge : (g : ℕ) → g ≡ q / 4096 + 1 → q / 4096 % 512 ≡ 0 → Started c p q g 0
-    start-edge g r e =
-        let k = page-edge c p whole (q / 4096) l e in
-        let w = page-word p (q / 4096) k in
-        behind-start g r (omega arith) (subst (Skips q) (kind-blocks p (q / 4096) Edge k) (skip-nil q))
+    pub start-edge : {f g : ℕ} → g ≡ q / 4096 + 1 → Lies p (q / 4096) f Edge → Started c p q g 0
+    start-edge {f} {g} r e =
+        let k : Edge ≡ kindAt p (q / 4096) = e .is ∙ ap (kindAt p) (e .by) in
+        behind-start g r (subst Alone k tt) (subst (Skips q) (kind-blocks p (q / 4096) Edge (sym k)) (skip-nil q))
 
-    -- inside a page that begins no slot
-    pub start-behind : (g : ℕ) → g ≡ q / 4096 + 1 → getD (p .words) (q / 4096) 0 < 0x80000000 → q % 4096 ≢ 0 → Started c p q g 0
-    start-behind g r h z =
-        behind-start g r (omega arith)
-        (pool-below p q (q / 4096) (omega arith)
-        (λ b e. let w = page-word p (q / 4096) e in absurd (omega arith)))
+    -- inside a page of no class run
+    pub start-behind : {g : ℕ} → g ≡ q / 4096 + 1 → Alone (kindAt p (q / 4096)) → q % 4096 ≢ 0 → Started c p q g 0
+    start-behind {g} r h z = behind-start g r h (pool-below p q (q / 4096) (omega arith) (λ b e. absurd (subst Alone e h)))
 
-    -- the first byte of such a page
-    pub start-here : q / 4096 % 512 ≢ 0 → getD (p .words) (q / 4096) 0 < 0x80000000 → q % 4096 ≡ 0 → Started c p q (q / 4096) 0
-    start-here n h z =
+    -- the first byte of such a page, which is not page 0
+    pub start-here : Alone (kindAt p (q / 4096)) → kindAt p (q / 4096) ≢ Edge → q % 4096 ≡ 0 → Started c p q (q / 4096) 0
+    start-here h n z =
+        let o : q / 4096 % 512 ≢ 0 = λ e. n (page-edge c p whole (q / 4096) l e) in
         record {
-          low = omega arith;
+          low = by-cases (decLt (512 * (q / 4096 / 512)) (q / 4096)) (λ x. x) (λ x. absurd (o (omega arith)));
           high = omega arith;
-          ahead = ahead-from c p q (q / 4096) 0 (λ i x y. before (omega arith) i x) (λ x. uncut p q (q / 4096) (omega arith))
+          ahead = ahead-from c p q (q / 4096) 0 (λ i x y. before h i x) (λ x. uncut p q (q / 4096) (omega arith))
               (λ i x y. pool-above p q i (omega arith));
         }
 
@@ -213,25 +241,11 @@ module _ (c : ℕ) (p : Pool) (ok : admitOf c p ≡ 0) (q : ℕ) where
               (λ t. pool-above p q i (omega arith)));
         }
 
-    -- its first page
-    pub start-first : (w s : ℕ) → w ≡ getD (p .words) (q / 4096) 0 → 0x80000000 ≤ w → w < 0xC0000000
-        → (w < 0x8000001E) × (Least (size (w - 0x80000000)) (q - 4096 * (q / 4096)) s → Started c p q (q / 4096) s)
-    start-first w s e a b =
-        let (n, h) = page-class c p whole (q / 4096) l (subst (λ (x : ℕ). 0x80000000 ≤ x) e a) (subst (λ (x : ℕ). x < 0xC0000000) e b) in
-        let k : kindAt p (q / 4096) ≡ Class (w - 0x80000000) = h ∙ ap (λ (x : ℕ). Class (x - 0x80000000)) (sym e) in
-        let d : spanOf (kindAt p (q / 4096)) ≡ suc (behind (w - 0x80000000)) = ap spanOf k in
-        (omega arith, start-class (q / 4096) (w - 0x80000000) s k (record { low = omega arith; high = omega arith }))
-
-    -- one behind its first, by the offset and the class in its word
-    pub start-inner : (w f s : ℕ) → w ≡ getD (p .words) (q / 4096) 0 → 0xC0000000 ≤ w → f ≡ q / 4096 - (w - 0xC0000000) / 65536
-        → ((w - 0xC0000000) / 65536 ≤ q / 4096) × (w % 65536 < 30) × (q - 4096 * f < 65536)
-        × (Least (size (w % 65536)) (q - 4096 * f) s → Started c p q f s)
-    start-inner w f s e a r =
-        let word : getD (p .words) (q / 4096) 0 ≡ 0xC0000000 + 65536 * ((w - 0xC0000000) / 65536) + w % 65536 = sym e ∙ omega arith in
-        let (n, h, i) = sound-runs c p whole .back (q / 4096) ((w - 0xC0000000) / 65536) (w % 65536) l (omega arith) word in
-        let kind : kindAt p f ≡ Class (w % 65536) = ap (kindAt p) r ∙ h in
-        let inside : InRun p f (q / 4096) = subst (λ (x : ℕ). InRun p x (q / 4096)) (sym r) i in
-        let low = inside .low in let high = inside .high in
-        let span : spanOf (kindAt p f) ≡ suc (behind (w % 65536)) = ap spanOf kind in
-        let few = behind-few (w % 65536) in
-        (n, class-at-low p f (w % 65536) kind, omega arith, start-class f (w % 65536) s kind inside)
+    -- a page of a class run, by what it lies in
+    pub start-run : {f b : ℕ} → Lies p (q / 4096) f (Class b)
+        → (b < 30) × (f ≤ q / 4096) × (q - 4096 * f < 65536) × ((s : ℕ) → Least (size b) (q - 4096 * f) s → Started c p q f s)
+    start-run {f} {b} r =
+        let low = r .by .low in let high = r .by .high in
+        let span : suc (behind b) ≡ spanOf (kindAt p f) = ap spanOf (r .is) in
+        let few = behind-few b in
+        (class-at-low p f b (sym (r .is)), omega arith, omega arith, λ s h. start-class f b s (sym (r .is)) (r .by) h)

@@ -1,7 +1,6 @@
 // Next: the live block with the lowest place at or above a place.
 ghost use mathlib.Core.Path.{_≡_};
-ghost use mathlib.Core.Logic.{_≢_};
-ghost use Prim.Native.Nat.{_*_, _/_, _%_, _<_};
+ghost use Prim.Native.Nat.{_*_, _/_, _<_};
 ghost use Rattle.classes.specs.Classes.{size};
 ghost use Rattle.records.specs.Pool.{pool, kindAt};
 ghost use Rattle.records.specs.Calls.{admitOf};
@@ -47,73 +46,68 @@ fn slot_from(b: usize, off: usize) -> usize
     (off + (z - 1)) / z
 }
 
-// The page and slot at which the search for the place q starts. A page inside a class run has the run's first page in its word. Any
-// other page but a class run's first begins at most a block at its first byte.
+// The page and slot at which the search for the place q starts. Any page but those of class runs begins at most one block, at its first byte.
 fn start_of(c: u64, bits: &[u64], words: &[u32], slots: &[u64], q: usize) -> Start
     requires { ⌜ (admitOf c (pool (now bits) (now words) (now slots)) ≡ 0) × (q / 4096 < 512 * c) ⌝ }
     ensures { λ r. ⌜ Started c (pool (now (bits .entry)) (now (words .entry)) (now (slots .entry))) q (r .page) (r .slot) ⌝ }
 {
     let g = q / 4096;
-    if g % 512 == 0 {
-        return Start {
-            page: g + 1,
-            slot: 0,
-        };
-    }
-    let w = words[g];
-    if 0xC0000000 <= w {
-        let k = ((w - 0xC0000000) / 65536) as usize;
-        let f = g - k;
-        let s = slot_from((w % 65536) as usize, q - 4096 * f);
-        return Start { page: f, slot: s };
-    }
-    if 0x80000000 <= w {
-        let s = slot_from((w - 0x80000000) as usize, q - 4096 * g);
-        return Start { page: g, slot: s };
-    }
-    if q % 4096 == 0 {
-        return Start { page: g, slot: 0 };
-    }
-    Start {
-        page: g + 1,
-        slot: 0,
+    let home = records::home_at(c, bits, words, slots, g);
+    let f = home.first;
+    let kind = home.kind;
+    match kind {
+        records::Kind::Class(b) => {
+            let s = slot_from(b, q - 4096 * f);
+            return Start { page: f, slot: s };
+        }
+        records::Kind::Edge => {
+            return Start {
+                page: g + 1,
+                slot: 0,
+            };
+        }
+        _ => {
+            if q % 4096 == 0 {
+                return Start { page: g, slot: 0 };
+            }
+            return Start {
+                page: g + 1,
+                slot: 0,
+            };
+        }
     }
 }
 
-// What starts at page g, which is no page 0.
+// What starts at page g.
 fn begun_at(c: u64, bits: &[u64], words: &[u32], slots: &[u64], g: usize) -> Begun
-    requires { ⌜ (admitOf c (pool (now bits) (now words) (now slots)) ≡ 0) × (g < 512 * c) × (g % 512 ≢ 0) ⌝ }
+    requires { ⌜ (admitOf c (pool (now bits) (now words) (now slots)) ≡ 0) × (g < 512 * c) ⌝ }
     ensures { λ r. ⌜ r ≡ begunAt (kindAt (pool (now (bits .entry)) (now (words .entry)) (now (slots .entry))) g) ⌝ }
 {
-    let word = words[g];
-    if 0xC0000000 <= word {
-        return Begun {
-            pages: 0,
-            count: 0,
-            size: 0,
-        };
-    }
-    if 0x80000000 <= word {
-        let row = classes::class_row((word - 0x80000000) as usize);
-        let n = widths::wide16(row.slots);
-        let z = widths::wide16(row.size);
-        return Begun {
-            pages: 0,
-            count: n,
-            size: z,
-        };
-    }
-    if word < 0x40000001 {
-        return Begun {
-            pages: 0,
-            count: 0,
-            size: 0,
-        };
-    }
-    Begun {
-        pages: (word - 0x40000000) as usize,
-        count: 0,
-        size: 0,
+    match records::kind_at(c, bits, words, slots, g) {
+        records::Kind::Large(k) => {
+            return Begun {
+                pages: k + 1,
+                count: 0,
+                size: 0,
+            };
+        }
+        records::Kind::Class(b) => {
+            let row = classes::class_row(b);
+            let n = widths::wide16(row.slots);
+            let z = widths::wide16(row.size);
+            return Begun {
+                pages: 0,
+                count: n,
+                size: z,
+            };
+        }
+        _ => {
+            return Begun {
+                pages: 0,
+                count: 0,
+                size: 0,
+            };
+        }
     }
 }
 

@@ -88,17 +88,18 @@ Bare (Large k) = ⊥
 Bare (Class b) = ⊥
 Bare (Inner w) = Unit {0}
 
-between : (n : ℕ) → 2 < n → n < 5 → OneOf (0 ∷ 1 ∷ 2 ∷ 5 ∷ []) n → ⊥
-between n a b (inl e) = omega arith
-between n a b (inr (inl e)) = omega arith
-between n a b (inr (inr (inl e))) = omega arith
-between n a b (inr (inr (inr e))) = omega arith
+-- one of four numbers
+pub not-one-of : {a b c d : ℕ} (n : ℕ) → OneOf (a ∷ b ∷ c ∷ d ∷ []) n → n ≢ a → n ≢ b → n ≢ c → n ≢ d → ⊥
+not-one-of n (inl e) x y z w = x e
+not-one-of n (inr (inl e)) x y z w = y e
+not-one-of n (inr (inr (inl e))) x y z w = z e
+not-one-of n (inr (inr (inr e))) x y z w = w e
 
 -- what a match tells where it has an arm each for the first pages of large runs and of class runs, and one for all other kinds
 pub others-bare : (k : Kind) → OneOf (0 ∷ 1 ∷ 2 ∷ 5 ∷ []) (tagOf the-type k) → Bare k
 others-bare Edge h = tt
 others-bare Free h = tt
 others-bare Damaged h = tt
-others-bare (Large k) h = between 3 (omega arith) (omega arith) h
-others-bare (Class b) h = between 4 (omega arith) (omega arith) h
+others-bare (Large k) h = not-one-of 3 h (omega arith) (omega arith) (omega arith) (omega arith)
+others-bare (Class b) h = not-one-of 4 h (omega arith) (omega arith) (omega arith) (omega arith)
 others-bare (Inner w) h = tt

@@ -1,26 +1,30 @@
 -- `next::begun_at` meets its contract. Assumes nothing.
-use mathlib.Core.Path.{refl}
+use mathlib.Core.Path.{sym, _∙_}
 use native.Mathlib.Omega.{arith}
-use Rattle.records.proofs.AdmitLaws.{admitted}
-use Rattle.next.proofs.CallLaws.{begun-inner, class-low, begun-class, begun-low, begun-large}
+use Rattle.records.proofs.KindLaws.{others-bare}
+use Rattle.records.proofs.RunLaws.{class-at-low, large-at-low}
+use Rattle.next.proofs.CallLaws.{begun-class, begun-large, begun-bare}
 use borrow.Author.Needs.{needs}
 use Rattle.next.proofs.begun_at.Statement.{statement}
 use Rattle.next.proofs.begun_at.Tie as tie
 
-mul-word : tie.Need-mul-word
-mul-word c = let s = admitted _ _ (c .before .before .before .pre .0) .shape in record { fits = omega arith }
+kind-at-requires : tie.Need-kind-at-requires
+kind-at-requires c κs = search needs
 
-shared-slice-read-word : tie.Need-shared-slice-read-word
-shared-slice-read-word c = let s = admitted _ _ (c .before .before .before .before .pre .0) .shape in omega arith
+enum-known-k : tie.Need-enum-known-k
+enum-known-k c = search needs
+
+add-t12 : tie.Need-add-t12
+add-t12 c = let l = large-at-low _ _ _ (sym (c .before .before .before .kind-at .ensures) ∙ c .before .k .given .1) in record { fits = omega arith }
 
 returns : tie.Need-returns
-returns c = begun-inner _ _ (c .before .before .before .before .before .pre .0) _ (c .before .before .before .before .before .pre .1) (omega arith)
+returns c = begun-large _ _ (sym (c .before .k .given .1) ∙ c .before .before .before .kind-at .ensures) (omega arith)
 
-cast-class-row : tie.Need-cast-class-row
-cast-class-row c = search needs
+enum-known-b : tie.Need-enum-known-b
+enum-known-b c = search needs
 
 class-row-requires : tie.Need-class-row-requires
-class-row-requires c κs = class-low _ _ (c .before .before .before .before .before .before .pre .0) _ (c .before .before .before .before .before .before .pre .1) (c .if2 .taken) (c .before .if1 .left)
+class-row-requires c κs = class-at-low _ _ _ (sym (c .before .before .before .kind-at .ensures) ∙ c .before .b .given .1)
 
 wide16-requires : tie.Need-wide16-requires
 wide16-requires c κs = search needs
@@ -29,33 +33,25 @@ wide16-requires-2 : tie.Need-wide16-requires-2
 wide16-requires-2 c κs = search needs
 
 returns-2 : tie.Need-returns-2
-returns-2 c = begun-class _ _ (c .before .before .before .before .before .before .before .before .before .pre .0) _ (c .before .before .before .before .before .before .before .before .before .pre .1) (c .before .before .before .if2 .taken) (c .before .before .before .before .if1 .left) (c .before .before .class-row .ensures) (c .before .wide16 .ensures) (c .wide162 .ensures)
+returns-2 c =
+    let d = c .before .before .before .before in
+    begun-class _ _ (sym (d .b .given .1) ∙ d .before .before .kind-at .ensures) (c .before .before .class-row .ensures) (c .before .wide16 .ensures)
+    (c .wide162 .ensures)
 
 returns-3 : tie.Need-returns-3
-returns-3 c = begun-low _ _ (c .before .before .before .before .before .before .before .pre .0) _ (c .before .before .before .before .before .before .before .pre .1) (c .if3 .taken)
-
-sub-t12 : tie.Need-sub-t12
-sub-t12 c = search needs
-
-cast-t10 : tie.Need-cast-t10
-cast-t10 c = search needs
-
-returns-4 : tie.Need-returns-4
-returns-4 c = begun-large _ _ (c .before .before .before .before .before .before .before .pre .0) _ (c .before .before .before .before .before .before .before .pre .1) (c .before .before .before .before .before .before .before .pre .2) (c .if3 .left) (c .before .if2 .left) _ refl
+returns-3 c = begun-bare _ _ _ (others-bare (c .before .kind-at .result) (c .match .keys3)) (c .before .kind-at .ensures)
 
 pub begun-at-spec : {M : Type 1} → statement M
 begun-at-spec =
     tie.close
     (tie.spec
-    mul-word
-    shared-slice-read-word
+    kind-at-requires
+    enum-known-k
+    add-t12
     returns
-    cast-class-row
+    enum-known-b
     class-row-requires
     wide16-requires
     wide16-requires-2
     returns-2
-    returns-3
-    sub-t12
-    cast-t10
-    returns-4)
+    returns-3)

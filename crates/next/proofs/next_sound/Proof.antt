@@ -59,7 +59,7 @@ add-g c = let s = admitted _ _ (c .before .before .before .before .before .befor
 
 begun-at-requires :
     tie.Need-begun-at-requires Inv-loop2 μ-loop2 Inv-loop μ-loop Inv-search μ-search
-begun-at-requires c κs = let s = admitted _ _ (c .before .before .before .before .before .before .before .before .before .before .pre) .shape in (c .before .before .before .before .before .before .before .before .before .before .pre, omega arith, omega arith)
+begun-at-requires c κs = let s = admitted _ _ (c .before .before .before .before .before .before .before .before .before .before .pre) .shape in (c .before .before .before .before .before .before .before .before .before .before .pre, omega arith)
 
 mul-wide64 : tie.Need-mul-wide64 Inv-loop2 μ-loop2 Inv-loop μ-loop Inv-search μ-search
 mul-wide64 c = let s = admitted _ _ (c .before .before .before .before .before .before .before .before .before .before .before .before .before .pre) .shape in record { fits = omega arith }
