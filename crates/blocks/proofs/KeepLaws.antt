@@ -14,7 +14,7 @@ use Rattle.classes.specs.Classes.{slots}
 use Rattle.classes.proofs.ClassLaws.{any-row, row-facts}
 use Rattle.records.specs.declared.Kind.{Kind}
 use Rattle.records.specs.declared.Kind.the-variants.{Free, Large, Class, Inner}
-use Rattle.records.specs.Kinds.{kindOf, zeros, behind, innerWords, wordsOf, slotsOf}
+use Rattle.records.specs.Kinds.{largeWord, classWord, kindOf, zeros, behind, innerWords, wordsOf, slotsOf}
 use Rattle.records.specs.Pool.{Pool, kindAt, slotAt}
 use Rattle.records.specs.Sound.{named, clean, step}
 use Rattle.records.specs.Calls.{fit, admitOf, Left, freshPool, freshOf}
@@ -137,8 +137,8 @@ module _ (c : ℕ) (p : Pool) (h : Good c p) where
   pub take-large : (g k : ℕ) → k < 511 → g + suc k ≤ 512 * c → ((i : ℕ) → g ≤ i → i < g + suc k → kindAt p i ≡ Free)
       → RunFlip c p (putRun 1 p g (wordsOf (Large k))) g k (Large k) (zeros k)
   take-large g k l fits were =
-      take-run g k (0x40000000 + suc k) (Large k) (zeros k) refl (large-begins k) (length-zeros k)
-      (kind-large (0x40000000 + suc k) (omega arith) (omega arith) ∙ ap Large (omega arith))
+      take-run g k (largeWord (suc k)) (Large k) (zeros k) refl (large-begins k) (length-zeros k)
+      (kind-large (largeWord (suc k)) (omega arith) (omega arith) ∙ ap Large (omega arith))
       (λ i x. kind-zero (getD (zeros k) i 0) (getD-zeros k i)) fits were
 
   pub free-large : (g k : ℕ) → g < 512 * c → kindAt p g ≡ Large k → RunFlip c (putRun 0 p g (zeros (suc k))) p g k (Large k) (zeros k)
@@ -192,8 +192,8 @@ module _ (c : ℕ) (p : Pool) (h : Good c p) where
   pub take-class : (g b : ℕ) → b < 30 → g + suc (behind b) ≤ 512 * c → ((i : ℕ) → g ≤ i → i < g + suc (behind b) → kindAt p i ≡ Free)
       → RunFlip c p (putRun 1 p g (wordsOf (Class b))) g (behind b) (Class b) (innerWords b 1 (behind b))
   take-class g b l fits were =
-      take-run g (behind b) (0x80000000 + b) (Class b) (innerWords b 1 (behind b)) refl (class-begins b) (length-inner b 1 (behind b))
-      (kind-class (0x80000000 + b) (omega arith) (omega arith) ∙ ap Class (omega arith))
+      take-run g (behind b) (classWord b) (Class b) (innerWords b 1 (behind b)) refl (class-begins b) (length-inner b 1 (behind b))
+      (kind-class (classWord b) (omega arith) (omega arith) ∙ ap Class (omega arith))
       (λ i x. kind-inner (getD (innerWords b 1 (behind b)) i 0) (omega (arith, getD-inner b 1 (behind b) i x))) fits were
 
 -- its slots are free, so it begins no block; then slot 0 is taken

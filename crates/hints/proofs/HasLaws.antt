@@ -13,6 +13,7 @@ use Rattle.classes.specs.Classes.{slots}
 use Rattle.classes.proofs.ClassLaws.{any-row}
 use Rattle.records.specs.declared.Kind.{Kind}
 use Rattle.records.specs.declared.Kind.the-variants.{Edge, Free, Class, Inner}
+use Rattle.records.specs.Kinds.{isRunOf}
 use Rattle.records.specs.Pool.{Pool, kindAt, slotAt}
 use Rattle.records.specs.Calls.{freshPool}
 use Rattle.records.proofs.Flags.{flag-eq}
@@ -21,7 +22,7 @@ use Rattle.records.proofs.FreshLaws.{fresh-edge, fresh-free}
 use Rattle.blocks.specs.Stores.{putSlot}
 use Rattle.blocks.proofs.StoreLaws.{slot-kinds, slot-other}
 use Rattle.blocks.proofs.FlipLaws.{RunFlip}
-use Rattle.reserve.specs.Reserve.{freeSlot, isRunOf, hasSlot}
+use Rattle.reserve.specs.Reserve.{freeSlot, hasSlot}
 use Rattle.reserve.proofs.PlanLaws.{has-free}
 use Rattle.reserve.proofs.MeanLaws.{found-run}
 

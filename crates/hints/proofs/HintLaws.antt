@@ -15,7 +15,7 @@ use Rattle.bitrow.proofs.Marks.{put-bit-other}
 use Rattle.classes.specs.Classes.{slots, pages, classFor}
 use Rattle.classes.proofs.ClassLaws.{any-row}
 use Rattle.records.specs.declared.Kind.the-variants.{Class}
-use Rattle.records.specs.Kinds.{zeros, behind, wordsOf}
+use Rattle.records.specs.Kinds.{zeros, behind, wordsOf, isRunOf}
 use Rattle.records.specs.Pool.{Pool, pool, kindAt}
 use Rattle.records.specs.Calls.{admitOf, leaves}
 use Rattle.records.proofs.Flags.{flag-eq, lt-cases, le-cases}
@@ -30,7 +30,7 @@ use Rattle.blocks.proofs.KeepLaws.{take-large, free-large, take-class}
 use Rattle.reserve.specs.declared.Reserved.{Reserved}
 use Rattle.reserve.specs.declared.Plan.{Plan}
 use Rattle.reserve.specs.declared.Plan.the-variants.{Refuse, InRun, NewRun, NewLarge}
-use Rattle.reserve.specs.Reserve.{freeSlot, isRunOf, hasSlot, slotPage, ifFound, slotOrRun, planSlot, planRun, pagesFor, planLarge, plan, perform, slotGiven}
+use Rattle.reserve.specs.Reserve.{freeSlot, hasSlot, slotPage, ifFound, slotOrRun, planSlot, planRun, pagesFor, planLarge, plan, perform, slotGiven}
 use Rattle.reserve.specs.Plans.{SlotFree, PlanOk}
 use Rattle.reserve.proofs.PlanLaws.{free-first, searched, slot-ok, plan-in}
 use Rattle.reserve.proofs.StoreForms.{in-run-is}

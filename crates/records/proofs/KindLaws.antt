@@ -7,12 +7,12 @@ use types.Run.{OneOf}
 use denote.Enum.Declared.{tagOf}
 use Rattle.records.proofs.Kind.{the-type}
 use Rattle.records.specs.declared.Kind.{Kind}
-use Prim.Native.Nat.{ℕ, zero, suc, _+_, _-_, _*_, _≤_, _<_}
+use Prim.Native.Nat.{ℕ, zero, suc, _+_, _-_, _≤_, _<_}
 use native.Mathlib.Omega.{arith}
 use lib.Dec.{eqb, ltb}
 use lib.ListN.{length, getD, length-replicate}
 use Rattle.records.specs.declared.Kind.the-variants.{Edge, Free, Damaged, Large, Class, Inner}
-use Rattle.records.specs.Kinds.{kindOf, zeros, innerWords}
+use Rattle.records.specs.Kinds.{innerWord, kindOf, zeros, innerWords}
 use Rattle.records.proofs.Flags.{cond-eq, cond-ne, cond-lt, cond-nlt, cond-le, cond-nle}
 
 pub length-zeros : (n : ℕ) → length (zeros n) ≡ n
@@ -28,7 +28,7 @@ unfolding innerWords
 length-inner b k zero = refl
 length-inner b k (suc n) = ap suc (length-inner b (suc k) n)
 
-pub getD-inner : (b k n i : ℕ) → i < n → getD (innerWords b k n) i 0 ≡ 0xC0000000 + 65536 * (k + i) + b
+pub getD-inner : (b k n i : ℕ) → i < n → getD (innerWords b k n) i 0 ≡ innerWord b (k + i)
 unfolding innerWords
 getD-inner b k zero i h = absurd (omega arith)
 getD-inner b k (suc n) zero h = omega arith

@@ -12,14 +12,14 @@ use borrow.Author.Tests.{eq-eqb}
 use Rattle.bitrow.specs.Row.{isSet}
 use Rattle.records.specs.declared.Kind.{Kind}
 use Rattle.records.specs.declared.Kind.the-variants.{Edge, Free, Damaged, Large, Class, Inner}
-use Rattle.records.specs.Kinds.{kindOf, behind}
+use Rattle.records.specs.Kinds.{innerWord, kindOf, behind}
 use Rattle.records.specs.Pool.{Pool, isEdge, kindAt}
 use Rattle.records.specs.Sound.{step, sound}
 use Rattle.records.specs.Runs.{spanOf, InRun, LiesBy, Lies, Runs}
 use Rattle.records.proofs.Flags.{eq-cases, lt-cases, le-cases}
-use Rattle.records.proofs.KindLaws.{length-zeros, getD-zeros, length-inner, getD-inner, kind-inner}
+use Rattle.records.proofs.KindLaws.{length-zeros, getD-zeros, length-inner, getD-inner}
 use Rattle.records.proofs.WordLaws.{page-inner}
-use Rattle.records.proofs.WalkLaws.{walk, walk-next, sound-walks, walk-found, Begins, walk-at, Home, walk-home, walk-right}
+use Rattle.records.proofs.WalkLaws.{walk, walk-next, sound-walks, walk-found, Begins, walk-at, Home, walk-home}
 
 -- ---- what a word can mean
 
@@ -162,7 +162,7 @@ module _ (c : ℕ) (p : Pool) (s : sound c p ≡ true) where
       (λ e. absurd (runs-off g (512 * (i / 512)) l (record { low = omega arith; high = omega arith }) (omega arith)))
 
   home-class : (g w : ℕ) → 0xC0000000 ≤ w → (h : Home (kindAt p) 0 g w) (k : Kind) → kindAt p (h .first) ≡ k → step [] k ≡ some (h .words)
-      → (b : ℕ) × (kindAt p (h .first) ≡ Class b) × (w ≡ 0xC0000000 + 65536 * (g - h .first) + b) × (g < h .first + suc (behind b))
+      → (b : ℕ) × (kindAt p (h .first) ≡ Class b) × (w ≡ innerWord b (g - h .first)) × (g < h .first + suc (behind b))
   home-class g w l h Edge e x = let n : 0 ≡ length (h .words) = ap length (Option·some-injective _ _ x) in let f = h .fits in absurd (omega arith)
   home-class g w l h Free e x = let n : 0 ≡ length (h .words) = ap length (Option·some-injective _ _ x) in let f = h .fits in absurd (omega arith)
   home-class g w l h Damaged e x = absurd (Option·none-ne-some _ x)
@@ -172,19 +172,19 @@ module _ (c : ℕ) (p : Pool) (s : sound c p ≡ true) where
   home-class g w l h (Class b) e x =
       let f = h .fits in let n = h .below in
       let m : behind b ≡ length (h .words) = sym (length-inner b 1 (behind b)) ∙ ap length (Option·some-injective _ _ x) in
-      let v : w ≡ 0xC0000000 + 65536 * (1 + (g - suc (h .first))) + b =
+      let v : w ≡ innerWord b (1 + (g - suc (h .first))) =
       h .word ∙ ap (λ (l : List ℕ). getD l (g - suc (h .first)) 0) (sym (Option·some-injective _ _ x))
       ∙ getD-inner b 1 (behind b) (g - suc (h .first)) (omega arith) in
       (b, e, omega arith, omega arith)
   home-class g w l h (Inner v) e x = absurd (Option·none-ne-some _ x)
 
-  runs-back : (g k b : ℕ) → g < 512 * c → b < 65536 → getD (p .words) g 0 ≡ 0xC0000000 + 65536 * k + b
+  runs-back : (g k b : ℕ) → g < 512 * c → b < 65536 → getD (p .words) g 0 ≡ innerWord b k
       → (k ≤ g) × (kindAt p (g - k) ≡ Class b) × InRun p (g - k) g
   runs-back g k b l m e =
-      let w : ℕ = 0xC0000000 + 65536 * k + b in
+      let w : ℕ = innerWord b k in
       ⊎-elim (λ x. absurd (omega (arith, x .0)))
-      (λ (h : Home (kindAt p) 0 g (0xC0000000 + 65536 * k + b)).
-      let (a, q, v, u) = home-class g (0xC0000000 + 65536 * k + b) (omega arith) h (kindAt p (h .first)) refl (h .begins) in
+      (λ (h : Home (kindAt p) 0 g (innerWord b k)).
+      let (a, q, v, u) = home-class g (innerWord b k) (omega arith) h (kindAt p (h .first)) refl (h .begins) in
       let n = h .below in
       let low = class-at-low p (h .first) a q in
       let r : h .first ≡ g - k = omega arith in
@@ -192,7 +192,7 @@ module _ (c : ℕ) (p : Pool) (s : sound c p ≡ true) where
       let kind : kindAt p (g - k) ≡ Class b = ap (kindAt p) (sym r) ∙ q ∙ ap Class z in
       let span : spanOf (kindAt p (g - k)) ≡ suc (behind a) = ap spanOf kind ∙ ap (λ (x : ℕ). suc (behind x)) (sym z) in
       (omega arith, kind, record { low = omega arith; high = omega arith }))
-      (walk-home (kindAt p) (512 * c) [] 0 g (0xC0000000 + 65536 * k + b) steps (omega arith) (omega arith)
+      (walk-home (kindAt p) (512 * c) [] 0 g (innerWord b k) steps (omega arith) (omega arith)
       (page-inner c p s g l (omega arith) ∙ ap Inner e))
 
   pub sound-runs : Runs c p

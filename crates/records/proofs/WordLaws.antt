@@ -6,14 +6,15 @@ use Prim.Native.Nat.{ℕ, suc, _+_, _-_, _*_, _%_, _≤_, _<_}
 use native.Mathlib.Decide.{ℕ-discrete, decLt}
 use native.Mathlib.Omega.{arith}
 use lib.ListN.{getD}
-use borrow.Author.Tests.{eq-eqb, ne-eqb}
+use lib.Dec.{eqb}
+use borrow.Author.Tests.{eq-eqb, ne-eqb, eqb-true}
 use Rattle.bitrow.specs.Row.{isSet}
 use Rattle.records.specs.declared.Kind.{Kind}
 use Rattle.records.specs.declared.Kind.the-variants.{Edge, Free, Damaged, Large, Class, Inner}
-use Rattle.records.specs.Kinds.{kindOf}
+use Rattle.records.specs.Kinds.{classWord, kindOf, isRunOf}
 use Rattle.records.specs.Pool.{Pool, isEdge, kindAt}
 use Rattle.records.specs.Sound.{sound}
-use Rattle.records.proofs.Flags.{cond-eq, cond-ne, eq-cases, lt-cases, le-cases}
+use Rattle.records.proofs.Flags.{flag-eq, cond-eq, cond-ne, eq-cases, lt-cases, le-cases}
 use Rattle.records.proofs.KindLaws.{kind-inner, kind-zero, kind-class, kind-large, kind-no-class, kind-no-large, kind-no-low}
 use mathlib.Core.List.{[]}
 use Rattle.records.proofs.WalkLaws.{sound-walks, walk-right}
@@ -151,3 +152,24 @@ module _ (c : ℕ) (p : Pool) (s : sound c p ≡ true) (g : ℕ) (l : g < 512 * 
   pub page-free : isSet (p .bits) g ≡ false → kindAt p g ≡ Free
   unfolding kindAt
   page-free e = is-free (isEdge g) (isSet (p .bits) g) (getD (p .words) g 0) right e
+
+-- ---- runs of a class
+
+-- a kind that is a run of class b
+pub run-of : (b : ℕ) (k : Kind) → isRunOf b k ≡ true → k ≡ Class b
+run-of b Edge e = absurd (false≢true e)
+run-of b Free e = absurd (false≢true e)
+run-of b Damaged e = absurd (false≢true e)
+run-of b (Large k) e = absurd (false≢true e)
+run-of b (Class d) e = ap Class (eqb-true d b e)
+run-of b (Inner w) e = absurd (false≢true e)
+
+-- the word of a page of sound records tells whether a run of class b starts there
+pub word-run : (c : ℕ) (p : Pool) → sound c p ≡ true → (b : ℕ) → b < 30 → (g : ℕ) → g < 512 * c
+    → eqb (getD (p .words) g 0) (classWord b) ≡ isRunOf b (kindAt p g)
+word-run c p s b bl g l =
+    flag-eq (eqb (getD (p .words) g 0) (classWord b)) (isRunOf b (kindAt p g))
+    (λ e. let w = eqb-true (getD (p .words) g 0) (classWord b) e in
+    let (n, k) = page-class c p s g l (omega arith) (omega arith) in
+    ap (isRunOf b) k ∙ eq-eqb (getD (p .words) g 0 - 0x80000000) b (omega arith))
+    (λ e. eq-eqb (getD (p .words) g 0) (classWord b) (page-word p g (run-of b (kindAt p g) e)))

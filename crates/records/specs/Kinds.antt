@@ -69,3 +69,12 @@ slotsOf Damaged = 0
 slotsOf (Large k) = 0
 slotsOf (Class b) = slots b
 slotsOf (Inner w) = 0
+
+-- a run of class b starts at the page
+abbrev pub isRunOf : ℕ → Kind → Bool
+isRunOf b Edge = false
+isRunOf b Free = false
+isRunOf b Damaged = false
+isRunOf b (Large k) = false
+isRunOf b (Class d) = eqb d b
+isRunOf b (Inner w) = false

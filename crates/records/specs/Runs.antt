@@ -6,7 +6,7 @@ use Prim.Native.Nat.{ℕ, suc, _+_, _-_, _*_, _/_, _%_, _≤_, _<_}
 use lib.ListN.{getD}
 use Rattle.records.specs.declared.Kind.{Kind}
 use Rattle.records.specs.declared.Kind.the-variants.{Edge, Free, Damaged, Large, Class, Inner}
-use Rattle.records.specs.Kinds.{behind}
+use Rattle.records.specs.Kinds.{innerWord, behind}
 use Rattle.records.specs.Pool.{Pool, kindAt}
 use Rattle.records.specs.Sound.{sound}
 use Rattle.records.specs.Calls.{freshPool}
@@ -47,7 +47,7 @@ pub record Runs (c : ℕ) (p : Pool) : Type 0 where
   -- and touches no page 0
   pub off : (g i : ℕ) → g < 512 * c → InRun p g i → i % 512 ≢ 0
   -- the word of a class run's page at offset k says where the run starts: k pages before
-  pub back : (g k b : ℕ) → g < 512 * c → b < 65536 → getD (p .words) g 0 ≡ 0xC0000000 + 65536 * k + b
+  pub back : (g k b : ℕ) → g < 512 * c → b < 65536 → getD (p .words) g 0 ≡ innerWord b k
       → (k ≤ g) × (kindAt p (g - k) ≡ Class b) × InRun p (g - k) g
 
 -- The claim: sound records have such runs, and a fresh pool of any number of chunks is sound

@@ -1,8 +1,7 @@
 // The records of a pool: what page words mean, how they are written, and what sound records promise. Definitions in specs/, laws in proofs/.
 ghost use mathlib.Core.Path.{_≡_};
 ghost use Prim.Native.Nat.{_*_, _≤_, _<_};
-ghost use lib.Dec.{eqb};
-ghost use Rattle.records.specs.Kinds.{edgeWord, largeWord, classWord, innerWord};
+ghost use Rattle.records.specs.Kinds.{edgeWord, largeWord, classWord, innerWord, isRunOf};
 ghost use Rattle.records.specs.Pool.{pool, kindAt};
 ghost use Rattle.records.specs.Calls.{shaped, admitOf};
 ghost use Rattle.records.specs.Runs.{Lies, SoundRecords};
@@ -59,14 +58,6 @@ pub fn inner_word(b: usize, k: usize) -> u32
 
 // ---- what they mean
 
-// Whether a word is that of the first page of a run of class b.
-pub fn starts_class(w: u32, b: usize) -> bool
-    requires { ⌜ b < 30 ⌝ }
-    ensures { λ r. ⌜ r ≡ eqb w (classWord b) ⌝ }
-{
-    w == class_word(b)
-}
-
 // What page g is, on records that are sound: there a word means one thing only, and the page bit tells a free page from one inside a large
 // run.
 pub fn kind_at(c: u64, bits: &[u64], words: &[u32], slots: &[u64], g: usize) -> Kind
@@ -90,6 +81,14 @@ pub fn kind_at(c: u64, bits: &[u64], words: &[u32], slots: &[u64], g: usize) -> 
         return Kind::Inner(0);
     }
     Kind::Free
+}
+
+// Whether a run of class b starts at page g, on records that are sound: one comparison, for searches that go over all pages.
+pub fn is_run_of(c: u64, bits: &[u64], words: &[u32], slots: &[u64], g: usize, b: usize) -> bool
+    requires { ⌜ (admitOf c (pool (now bits) (now words) (now slots)) ≡ 0) × (g < 512 * c) × (b < 30) ⌝ }
+    ensures { λ r. ⌜ r ≡ isRunOf b (kindAt (pool (now (bits .entry)) (now (words .entry)) (now (slots .entry))) g) ⌝ }
+{
+    words[g] == class_word(b)
 }
 
 // What page g lies in, on records that are sound. A page inside a class run has the way to the run's first page in its word; any other page

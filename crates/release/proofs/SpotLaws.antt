@@ -6,14 +6,14 @@ use mathlib.Core.Option.{some, Option·none-ne-some, Option·some-injective}
 use mathlib.Core.List.{List, []}
 use Prim.Native.Nat.{ℕ, zero, suc, _+_, _-_, _*_, _/_, _%_, _≤_, _<_}
 use native.Mathlib.Omega.{arith}
-use lib.Dec.{eqb, ltb}
+use lib.Dec.{ltb}
 use lib.ListN.{length, getD}
 use Rattle.bitrow.specs.Row.{isSet}
 use Rattle.classes.specs.Classes.{size, slots}
 use Rattle.classes.proofs.ClassLaws.{Cut}
 use Rattle.records.specs.declared.Kind.{Kind}
 use Rattle.records.specs.declared.Kind.the-variants.{Edge, Free, Damaged, Large, Class, Inner}
-use Rattle.records.specs.Kinds.{behind}
+use Rattle.records.specs.Kinds.{innerWord, behind}
 use Rattle.records.specs.Pool.{Pool, kindAt}
 use Rattle.records.specs.Sound.{step, sound}
 use Rattle.records.specs.Calls.{admitOf}
@@ -80,7 +80,7 @@ module _ (c : ℕ) (p : Pool) (s : sound c p ≡ true) where
   large-home g h (Class b) e x =
       let f = h .fits in
       let m : behind b ≡ length (h .words) = sym (length-inner b 1 (behind b)) ∙ ap length (Option·some-injective _ _ x) in
-      let v : 0 ≡ 0xC0000000 + 65536 * (1 + (g - suc (h .first))) + b =
+      let v : 0 ≡ innerWord b (1 + (g - suc (h .first))) =
       h .word ∙ ap (λ (l : List ℕ). getD l (g - suc (h .first)) 0) (sym (Option·some-injective _ _ x))
       ∙ getD-inner b 1 (behind b) (g - suc (h .first)) (omega arith) in
       absurd (omega arith)

@@ -13,7 +13,7 @@ use Rattle.bitrow.specs.Row.{bitAt, isSet}
 use Rattle.classes.specs.Classes.{size, slots, pages}
 use Rattle.classes.proofs.ClassLaws.{any-row, row-facts}
 use Rattle.records.specs.declared.Kind.the-variants.{Large, Class}
-use Rattle.records.specs.Kinds.{wordsOf, behind}
+use Rattle.records.specs.Kinds.{wordsOf, behind, isRunOf}
 use Rattle.records.specs.Pool.{Pool, kindAt, slotAt}
 use Rattle.records.specs.Calls.{Left}
 use Rattle.records.specs.Runs.{spanOf}
@@ -28,7 +28,7 @@ use Rattle.blocks.proofs.KeepLaws.{put-large, put-slot, put-class, good-admit}
 use Rattle.reserve.specs.declared.Plan.{Plan}
 use Rattle.reserve.specs.declared.Plan.the-variants.{Refuse, InRun, NewRun, NewLarge}
 use Rattle.reserve.specs.declared.Reserved.{Reserved}
-use Rattle.reserve.specs.Reserve.{freeSlot, isRunOf, hasSlot, slotPage, ifFound, slotOrRun, planSlot, planRun, plan}
+use Rattle.reserve.specs.Reserve.{freeSlot, hasSlot, slotPage, ifFound, slotOrRun, planSlot, planRun, plan}
 use Rattle.reserve.specs.Reserve.{perform, answer, attempt, reserveOf}
 use Rattle.reserve.specs.Plans.{PlanOk}
 use Rattle.reserve.specs.Means.{blockOf, NoSlot, NoGap, ReserveMeans}

@@ -1,32 +1,30 @@
 -- What a reserve finds: free slots and free pages. Assumes nothing.
 use mathlib.Core.Path.{_≡_, refl, sym, ap, ap₂, _∙_, subst}
-use mathlib.Core.Logic.{_≢_, by-cases}
-use mathlib.Core.Bool.{Bool, true, false, cond, _&&_, false≢true}
+use mathlib.Core.Logic.{by-cases}
+use mathlib.Core.Bool.{Bool, true, false, cond, _&&_}
 use mathlib.Core.List.{List}
 use Prim.Native.Nat.{ℕ, zero, suc, _+_, _-_, _*_, _≤_, _<_}
 use native.Mathlib.Decide.{ℕ-discrete}
 use native.Mathlib.Omega.{arith}
-use lib.Dec.{eqb, ltb}
-use lib.ListN.{getD}
-use borrow.Author.Tests.{eq-eqb, ne-eqb, eqb-true, ltb-true}
+use lib.Dec.{ltb}
+use borrow.Author.Tests.{ltb-true}
 use Rattle.bitrow.specs.Row.{isSet, nextBit}
 use Rattle.bitrow.proofs.Rows.{First, next-first}
 use Rattle.bitrow.proofs.Marks.{zero-clear}
 use Rattle.classes.specs.Classes.{slots, pages, classFor}
 use Rattle.classes.proofs.ClassLaws.{row-facts, class-smallest}
-use Rattle.records.specs.declared.Kind.{Kind}
-use Rattle.records.specs.declared.Kind.the-variants.{Edge, Free, Damaged, Large, Class, Inner}
+use Rattle.records.specs.Kinds.{isRunOf}
 use Rattle.records.specs.Pool.{Pool, kindAt, slotAt}
 use Rattle.records.specs.Sound.{sound}
-use Rattle.records.proofs.Flags.{flag-eq, and-left, and-right, cond-lt, cond-nlt, cond-le, cond-nle, lt-cases, le-cases}
-use Rattle.records.proofs.WordLaws.{page-word, page-class, page-free}
+use Rattle.records.proofs.Flags.{and-left, and-right, cond-lt, cond-nlt, cond-le, cond-nle, lt-cases, le-cases}
+use Rattle.records.proofs.WordLaws.{page-free, run-of}
 use Rattle.gaps.specs.declared.Found.{Found}
 use Rattle.gaps.specs.declared.Found.the-variants.{At, Nothing}
 use Rattle.gaps.specs.Gaps.{findPages}
 use Rattle.gaps.proofs.Answers.{found-free}
 use Rattle.reserve.specs.declared.Plan.{Plan}
 use Rattle.reserve.specs.declared.Plan.the-variants.{Refuse, InRun, NewRun, NewLarge}
-use Rattle.reserve.specs.Reserve.{freeSlot, isRunOf, hasSlot, slotPage, ifFound, slotOrRun, planSlot, planRun, pagesFor, planLarge, plan}
+use Rattle.reserve.specs.Reserve.{freeSlot, hasSlot, slotPage, ifFound, slotOrRun, planSlot, planRun, pagesFor, planLarge, plan}
 use Rattle.reserve.specs.Plans.{SlotFree, PagesFree, PlanOk}
 
 -- ---- the lowest free slot of a run
@@ -42,32 +40,16 @@ free-first bits b g =
     let r : nextBit 0 bits (512 * g) (slots b) ≡ 512 * g + (nextBit 0 bits (512 * g) (slots b) - 512 * g) = omega arith in
     subst (First bits (512 * g) (512 * g + slots b) 0) r f
 
--- ---- a run of the class, by its first word
+-- ---- a run of the class that has one
 
--- a kind that is a run of class b
-run-of : (b : ℕ) (k : Kind) → isRunOf b k ≡ true → k ≡ Class b
-run-of b Edge e = absurd (false≢true e)
-run-of b Free e = absurd (false≢true e)
-run-of b Damaged e = absurd (false≢true e)
-run-of b (Large k) e = absurd (false≢true e)
-run-of b (Class d) e = ap Class (eqb-true d b e)
-run-of b (Inner w) e = absurd (false≢true e)
-
-module _ (c : ℕ) (p : Pool) (s : sound c p ≡ true) (b : ℕ) (bl : b < 30) where
-  -- the word of a page of sound records tells whether a run of class b starts there
-  word-run : (g : ℕ) → g < 512 * c → eqb (getD (p .words) g 0) (0x80000000 + b) ≡ isRunOf b (kindAt p g)
-  word-run g l =
-      flag-eq (eqb (getD (p .words) g 0) (0x80000000 + b)) (isRunOf b (kindAt p g))
-      (λ e. let w = eqb-true (getD (p .words) g 0) (0x80000000 + b) e in
-      let (n, k) = page-class c p s g l (omega arith) (omega arith) in
-      ap (isRunOf b) k ∙ eq-eqb (getD (p .words) g 0 - 0x80000000) b (omega arith))
-      (λ e. eq-eqb (getD (p .words) g 0) (0x80000000 + b) (page-word p g (run-of b (kindAt p g) e)))
-
-  pub word-slot : (g : ℕ) → g < 512 * c → (t : Bool) {w f n : ℕ} → w ≡ getD (p .words) g 0 → f ≡ 0x80000000 + b → n ≡ slots b
-      → t ≡ eqb w f && ltb (freeSlot (p .slots) b g) n → t ≡ hasSlot p b g
+module _ (p : Pool) (b g : ℕ) {t : Bool} (e : t ≡ isRunOf b (kindAt p g)) where
+  pub has-not : t ≡ false → false ≡ hasSlot p b g
   unfolding hasSlot
-  word-slot g l t {w} {f} {n} ew ef en e =
-      e ∙ ap₂ (λ (x y : Bool). x && y) (ap₂ eqb ew ef ∙ word-run g l) (ap (ltb (freeSlot (p .slots) b g)) en)
+  has-not h = ap (λ (v : Bool). v && ltb (freeSlot (p .slots) b g) (slots b)) (sym h ∙ e)
+
+  pub has-by-slot : t ≡ true → {n s : ℕ} → n ≡ slots b → s ≡ freeSlot (p .slots) b g → ltb s n ≡ hasSlot p b g
+  unfolding hasSlot
+  has-by-slot h x y = ap₂ ltb y x ∙ ap (λ (v : Bool). v && ltb (freeSlot (p .slots) b g) (slots b)) (sym h ∙ e)
 
 -- ---- the first page with a free slot
 
@@ -190,12 +172,6 @@ free-is bits b g n r e f =
     let l = next-first bits (512 * g) (512 * g + n) 0 (omega arith) (omega arith) .low in
     let k : 512 * g ≤ r = subst (λ (x : ℕ). 512 * g ≤ x) (sym f) l in
     (k, ap (λ (x : ℕ). x - 512 * g) h)
-
-pub other-word : (w f : ℕ) (t : Bool) → w ≢ f → false ≡ (eqb w f && t)
-other-word w f t n = sym (ap (λ (x : Bool). x && t) (ne-eqb w f n))
-
-pub this-word : (w f r n m : ℕ) → w ≡ f → r ≡ m → ltb r n ≡ (eqb w f && ltb m n)
-this-word w f r n m e g = ap (λ (x : ℕ). ltb x n) g ∙ sym (ap (λ (x : Bool). x && ltb m n) (eq-eqb w f e))
 
 module _ (c : ℕ) (p : Pool) (b : ℕ) where
   pub plan-in : (g s : ℕ) → g ≡ slotPage p b 0 (512 * c) → g < 512 * c → s ≡ freeSlot (p .slots) b g → InRun g b s ≡ planSlot c p b

@@ -9,7 +9,7 @@ use Rattle.bitrow.specs.Row.{putBit, putBits}
 use Rattle.classes.specs.Classes.{pages, slots}
 use Rattle.classes.proofs.ClassLaws.{any-row, row-facts}
 use Rattle.records.specs.declared.Kind.the-variants.{Large, Class}
-use Rattle.records.specs.Kinds.{behind, innerWords, wordsOf}
+use Rattle.records.specs.Kinds.{largeWord, classWord, innerWord, behind, innerWords, wordsOf}
 use Rattle.records.specs.Pool.{Pool, pool}
 use Rattle.records.proofs.KindLaws.{length-zeros, length-inner}
 use Rattle.records.proofs.WordLaws.{page-word}
@@ -30,7 +30,7 @@ pub record Written (ws ws₀ : List ℕ) (g b n k : ℕ) : Type 0 where
 pub written-none : (l : List ℕ) (g b n : ℕ) → Written l l g b n 1
 written-none l g b n = record { long = refl; says = refl }
 
-pub written-on : {ws ws₀ : List ℕ} {g b n k : ℕ} → Written ws ws₀ g b n k → k < n → (w : ℕ) → w ≡ 0xC0000000 + 65536 * k + b
+pub written-on : {ws ws₀ : List ℕ} {g b n k : ℕ} → Written ws ws₀ g b n k → k < n → (w : ℕ) → w ≡ innerWord b k
     → Written (set ws (g + k) w) ws₀ g b n (k + 1)
 unfolding innerWords
 written-on {ws} {ws₀} {g} {b} {n} {k} h l w e =
@@ -45,14 +45,14 @@ written-on {ws} {ws₀} {g} {b} {n} {k} h l w e =
           ∙ ap (λ (m : ℕ). sets ws (g + k) (innerWords b k m)) (sym r) ∙ h .says;
     }
 
-pub written-all : (l : List ℕ) {ws ws₀ : List ℕ} {g b n k : ℕ} → Written ws ws₀ g b n k → n ≤ k → n ≡ pages b → ws₀ ≡ set l g (0x80000000 + b)
+pub written-all : (l : List ℕ) {ws ws₀ : List ℕ} {g b n k : ℕ} → Written ws ws₀ g b n k → n ≤ k → n ≡ pages b → (w : ℕ) → w ≡ classWord b → ws₀ ≡ set l g w
     → ws ≡ sets l g (wordsOf (Class b))
 unfolding innerWords behind
-written-all l {ws} {ws₀} {g} {b} {n} {k} h m e f =
+written-all l {ws} {ws₀} {g} {b} {n} {k} h m e w x f =
     let r : 0 ≡ n - k = omega arith in
     let q : g + 1 ≡ suc g = omega arith in
     ap (λ (x : ℕ). sets ws (g + k) (innerWords b k x)) r ∙ h .says ∙ ap₂ (λ (i x : ℕ). sets ws₀ i (innerWords b 1 (x - 1))) q e
-    ∙ ap (λ (x : List ℕ). sets x (suc g) (innerWords b 1 (pages b - 1))) f
+    ∙ ap (λ (y : List ℕ). sets y (suc g) (innerWords b 1 (pages b - 1))) (f ∙ ap (set l g) x)
 
 pub run-pages : {b n : ℕ} → b < 30 → n ≡ pages b → (1 ≤ n) × (n ≤ 7)
 run-pages {b} l e = let h = row-facts b l in (omega arith, omega arith)
@@ -73,12 +73,12 @@ new-run-is p g b n l e bs ws ss x y z =
     let t : ss ≡ putBit 1 (p .slots) (512 * g + 0) = z ∙ ap (putBit 1 (p .slots)) i in
     cc
 
-pub large-stored : (n : ℕ) (l : List ℕ) (g w : ℕ) → 1 ≤ n → w ≡ 0x40000000 + n → ((i : ℕ) → g < i → i < g + n → getD l i 0 ≡ 0)
+pub large-stored : (n : ℕ) (l : List ℕ) (g w : ℕ) → 1 ≤ n → w ≡ largeWord n → ((i : ℕ) → g < i → i < g + n → getD l i 0 ≡ 0)
     → set l g w ≡ sets l g (wordsOf (Large (n - 1)))
 large-stored zero l g w a e h = absurd (omega arith)
 large-stored (suc n) l g w a e h =
     let r : suc n - 1 ≡ n = omega arith in
-    ap (set l g) e ∙ first-stored (0x40000000 + suc n) n l g h ∙ ap (λ (k : ℕ). sets l g (wordsOf (Large k))) (sym r)
+    ap (set l g) e ∙ first-stored (largeWord (suc n)) n l g h ∙ ap (λ (k : ℕ). sets l g (wordsOf (Large k))) (sym r)
 
 pub new-large-is : (p : Pool) (g n : ℕ) → 1 ≤ n → (bs ws : List ℕ) → bs ≡ putBits 1 (p .bits) g n → ws ≡ sets (p .words) g (wordsOf (Large (n - 1)))
     → pool bs ws (p .slots) ≡ perform p (NewLarge g n)

@@ -1,13 +1,12 @@
 -- Reserve (document 01, "Taking and giving back"): what is looked for, what is stored, what is answered. Assumes nothing.
-use mathlib.Core.Bool.{Bool, false, cond, _&&_}
+use mathlib.Core.Bool.{Bool, cond, _&&_}
 use mathlib.Core.List.{List}
 use Prim.Native.Nat.{ℕ, zero, suc, _+_, _-_, _*_, _/_}
-use lib.Dec.{eqb, ltb, leb}
+use lib.Dec.{ltb, leb}
 use Rattle.bitrow.specs.Row.{nextBit}
 use Rattle.classes.specs.Classes.{size, slots, pages, classFor}
-use Rattle.records.specs.declared.Kind.{Kind}
-use Rattle.records.specs.declared.Kind.the-variants.{Edge, Free, Damaged, Large, Class, Inner}
-use Rattle.records.specs.Kinds.{wordsOf}
+use Rattle.records.specs.declared.Kind.the-variants.{Large, Class}
+use Rattle.records.specs.Kinds.{wordsOf, isRunOf}
 use Rattle.records.specs.Pool.{Pool, kindAt}
 use Rattle.records.specs.Calls.{admitOf, unless, Left, leaves}
 use Rattle.gaps.specs.declared.Found.{Found}
@@ -24,15 +23,6 @@ use Rattle.reserve.specs.declared.Reserved.{Reserved}
 -- the number of the lowest free slot of a run of class b that starts at page g; the number of its slots where none is free
 unfoldable pub freeSlot : List ℕ → ℕ → ℕ → ℕ
 freeSlot bits b g = nextBit 0 bits (512 * g) (slots b) - 512 * g
-
--- a run of class b starts at the page
-abbrev pub isRunOf : ℕ → Kind → Bool
-isRunOf b Edge = false
-isRunOf b Free = false
-isRunOf b Damaged = false
-isRunOf b (Large k) = false
-isRunOf b (Class d) = eqb d b
-isRunOf b (Inner w) = false
 
 -- a run of class b that has a free slot starts at page g
 unfoldable pub hasSlot : Pool → ℕ → ℕ → Bool

@@ -1,8 +1,6 @@
 // Reserve: a slot of the smallest class that holds the request, or a run of pages.
 ghost use mathlib.Core.Path.{_≡_};
-ghost use mathlib.Core.Bool.{_&&_};
 ghost use Prim.Native.Nat.{ℕ, _+_, _-_, _*_, _<_, _≤_};
-ghost use lib.Dec.{eqb, ltb};
 ghost use lib.ListN.{length, getD};
 ghost use lib.Seq.{sets};
 ghost use Rattle.bitrow.specs.Row.{putBits};
@@ -11,7 +9,7 @@ ghost use Rattle.records.specs.declared.Kind.the-variants.{Large, Class};
 ghost use Rattle.records.specs.Kinds.{slotsOf, wordsOf};
 ghost use Rattle.records.specs.Pool.{pool};
 ghost use Rattle.records.specs.Calls.{admitOf, leaves};
-ghost use Rattle.reserve.specs.Reserve.{freeSlot, slotPage, planSlot, planRun, planLarge, plan, perform, slotGiven, answer, attempt, reserveOf};
+ghost use Rattle.reserve.specs.Reserve.{freeSlot, hasSlot, slotPage, planSlot, planRun, planLarge, plan, perform, slotGiven, answer, attempt, reserveOf};
 ghost use Rattle.reserve.specs.Means.{ReserveMeans};
 ghost use Rattle.reserve.specs.Plans.{PlanOk, PlanLow, PlanSize};
 
@@ -53,12 +51,12 @@ pub fn free_slot(slots: &[u64], g: usize, b: usize, n: usize) -> usize
     bitrow::next_bit(slots, 512 * g, 512 * g + n, false) - 512 * g
 }
 
-// Whether a run of class b with a free slot starts at page g, by the page's word w and the first word of a run of class b.
-fn has_slot(w: u32, first: u32, slots: &[u64], g: usize, b: usize, n: usize) -> bool
-    requires { ⌜ (g < 8192) × (512 * g + 512 ≤ 64 * length (now slots)) × (n ≡ slotsOf (Class b)) × (n ≤ 512) ⌝ }
-    ensures { λ r. ⌜ r ≡ (eqb w first && ltb (freeSlot (now (slots .entry)) b g) n) ⌝ }
+// Whether a run of class b with a free slot starts at page g; such runs have n slots.
+fn has_slot(c: u64, bits: &[u64], words: &[u32], slots: &[u64], g: usize, b: usize, n: usize) -> bool
+    requires { ⌜ (admitOf c (pool (now bits) (now words) (now slots)) ≡ 0) × (g < 512 * c) × (b < 30) × (n ≡ slotsOf (Class b)) ⌝ }
+    ensures { λ r. ⌜ r ≡ hasSlot (pool (now (bits .entry)) (now (words .entry)) (now (slots .entry))) b g ⌝ }
 {
-    if w != first {
+    if !records::is_run_of(c, bits, words, slots, g, b) {
         return false;
     }
     free_slot(slots, g, b, n) < n
@@ -69,11 +67,10 @@ fn slot_page(c: u64, bits: &[u64], words: &[u32], slots: &[u64], b: usize, n: us
     requires { ⌜ (admitOf c (pool (now bits) (now words) (now slots)) ≡ 0) × (b < 30) × (n ≡ slotsOf (Class b)) ⌝ }
     ensures { λ r. ⌜ r ≡ slotPage (pool (now (bits .entry)) (now (words .entry)) (now (slots .entry))) b 0 (512 * c) ⌝ }
 {
-    let first = 0x80000000 + (b as u32);
     let end = 512 * (c as usize);
     let mut g = 0;
     while g < end {
-        if has_slot(words[g], first, slots, g, b, n) {
+        if has_slot(c, bits, words, slots, g, b, n) {
             return g;
         }
         g += 1;
@@ -157,10 +154,10 @@ fn class_words(words: &mut [u32], g: usize, b: usize, n: usize)
     requires { ⌜ (g + n ≤ 8192) × (g + n ≤ length (now words)) × (b < 30) × (n ≡ pages b) ⌝ }
     ensures { λ _. ⌜ now (words .exit) ≡ sets (now (words .entry)) g (wordsOf (Class b)) ⌝ }
 {
-    words[g] = 0x80000000 + (b as u32);
+    words[g] = records::class_word(b);
     let mut k = 1;
     while k < n {
-        words[g + k] = 0xC0000000 + 65536 * (k as u32) + (b as u32);
+        words[g + k] = records::inner_word(b, k);
         k += 1;
     }
 }
@@ -183,7 +180,7 @@ fn new_large(bits: &mut [u64], words: &mut [u32], g: usize, n: usize)
     ensures { λ _. ⌜ (now (bits .exit) ≡ putBits 1 (now (bits .entry)) g n) × (now (words .exit) ≡ sets (now (words .entry)) g (wordsOf (Large (n - 1)))) ⌝ }
 {
     bitrow::put_bits(bits, g, n, true);
-    words[g] = 0x40000000 + (n as u32);
+    words[g] = records::large_word(n);
 }
 
 // The stores of a plan.

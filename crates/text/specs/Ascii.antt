@@ -1,7 +1,7 @@
 -- A quoted text as the list of its bytes. Assumes nothing.
 use Prim.Native.Nat.{ℕ}
 use Prim.Native.String.{String, [], _∷_}
-use Prim.Native.Char.{Char, code}
+use Prim.Native.Char.{code}
 use mathlib.Core.List as List
 
 abbrev pub ascii : String → List.List ℕ

@@ -1,6 +1,5 @@
 -- `release::area_at` meets its contract. Assumes nothing.
-use mathlib.Core.Path.{sym, subst}
-use Prim.Native.Nat.{ℕ}
+use mathlib.Core.Path.{sym}
 use native.Mathlib.Omega.{arith}
 use Rattle.records.proofs.AdmitLaws.{admitted}
 use Rattle.records.proofs.KindLaws.{others-bare}

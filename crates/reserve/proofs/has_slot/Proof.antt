@@ -1,17 +1,27 @@
 -- `reserve::has_slot` meets its contract. Assumes nothing.
-use Rattle.reserve.proofs.PlanLaws.{other-word, this-word}
+use native.Mathlib.Omega.{arith}
+use borrow.Author.Tests.{not-true, not-false}
+use Rattle.records.proofs.AdmitLaws.{admitted}
+use Rattle.reserve.proofs.PlanLaws.{class-few, has-not, has-by-slot}
 use borrow.Author.Needs.{needs}
 use Rattle.reserve.proofs.has_slot.Statement.{statement}
 use Rattle.reserve.proofs.has_slot.Tie as tie
 
+is-run-of-requires : tie.Need-is-run-of-requires
+is-run-of-requires c κs = search needs
+
 returns : tie.Need-returns
-returns c = other-word _ _ _ (c .if1 .taken)
+returns c = has-not _ _ _ (c .before .is-run-of .ensures) (not-true _ (c .if1 .taken))
 
 free-slot-requires : tie.Need-free-slot-requires
-free-slot-requires c κs = search needs
+free-slot-requires c κs =
+    let e = c .before .before .before .before .before .pre in
+    let s = admitted _ _ (e .0) .shape in (omega arith, omega arith, e .3, class-few (e .2) (e .3))
 
 returns-2 : tie.Need-returns-2
-returns-2 c = this-word _ _ _ _ _ (c .before .if1 .left) (c .free-slot .ensures)
+returns-2 c =
+    has-by-slot _ _ _ (c .before .before .is-run-of .ensures) (not-false _ (c .before .if1 .left)) (c .before .before .before .before .before .before .pre .3)
+    (c .free-slot .ensures)
 
 pub has-slot-spec : {M : Type 1} → statement M
-has-slot-spec = tie.close (tie.spec returns free-slot-requires returns-2)
+has-slot-spec = tie.close (tie.spec is-run-of-requires returns free-slot-requires returns-2)
