@@ -5,7 +5,7 @@
 #                      build/paint together
 #   make test          the one test command: proofs, then the host tests
 #   make host-test     the host tests alone: damage, series, replays, seeds,
-#                      program, install
+#                      program, install, readme
 #   make program-test  of these program alone, which runs the replay program
 #   make long-test     random series only, COUNT calls of them (20,000,000), from
 #                      another SEED each time
@@ -158,6 +158,7 @@ host-test: build/damage build/series build/replays build/seeds build/program all
 	build/program $(PROGRAM)
 	cmp docs/pagemap.svg crates/painter/stdout
 	CC='$(CC)' LIB='$(LIB)' PROGRAM='$(PROGRAM)' tests/install.sh
+	tests/readme.sh
 
 program-test: build/program $(PROGRAM)
 	build/program $(PROGRAM)
