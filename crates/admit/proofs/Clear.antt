@@ -23,7 +23,7 @@ use Rattle.records.specs.Kinds.{behind, slotsOf}
 use Rattle.records.specs.Pool.{Pool, kindAt, slotAt}
 use Rattle.records.specs.Sound.{all, named, clean}
 use Rattle.records.proofs.Flags.{flag-eq, and-made, and-left, and-right, all-at, all-of}
-use Rattle.admit.specs.Masks.{maskOf, maskRow, masksOf, maskTable}
+use Rattle.admit.specs.Masks.{strayMask, maskRow, masksOf, maskTable}
 use Rattle.admit.specs.Sweep.{wordClear, slotsClear, Behinds}
 
 -- ---- the OR of words
@@ -81,7 +81,7 @@ mask-clear x m h = by-cases (decLe m 64) low high
         let d : x / 2 ^ m ≡ 0 = div-eq-of-lt (omega arith) in
         ap (λ (a : ℕ). eqb a 0) (ap (bitAnd x) z ∙ and-zero-r x) ∙ ap (λ (a : ℕ). eqb a 0) (sym d)
 
-masks-row : (n j : ℕ) (l : List ℕ) → j < 8 → getD (maskRow n l) j 0 ≡ maskOf n j
+masks-row : (n j : ℕ) (l : List ℕ) → j < 8 → getD (maskRow n l) j 0 ≡ strayMask n j
 masks-row n zero l h = refl
 masks-row n (suc zero) l h = refl
 masks-row n (suc (suc zero)) l h = refl
@@ -92,7 +92,7 @@ masks-row n (suc (suc (suc (suc (suc (suc zero)))))) l h = refl
 masks-row n (suc (suc (suc (suc (suc (suc (suc zero))))))) l h = refl
 masks-row n (suc (suc (suc (suc (suc (suc (suc (suc j)))))))) l h = absurd (omega arith)
 
-masks-at : (rs : List Row) (b j : ℕ) → b < length rs → j < 8 → getD (masksOf rs) (8 * b + j) 0 ≡ maskOf (getD rs b (rowOf 0 0 0) .slots) j
+masks-at : (rs : List Row) (b j : ℕ) → b < length rs → j < 8 → getD (masksOf rs) (8 * b + j) 0 ≡ strayMask (getD rs b (rowOf 0 0 0) .slots) j
 unfolding masksOf
 masks-at [] b j h l = absurd (omega arith)
 masks-at (r ∷ rs) zero j h l = let q : 8 * 0 + j ≡ j = omega arith in rw q (masks-row (r .slots) j (masksOf rs) l)
@@ -100,7 +100,7 @@ masks-at (r ∷ rs) (suc b) j h l =
     let q : 8 * suc b + j ≡ suc (suc (suc (suc (suc (suc (suc (suc (8 * b + j)))))))) = omega arith in
     rw q (masks-at rs b j (omega arith) l)
 
-mask-at : (b j : ℕ) → b < 30 → j < 8 → getD maskTable (8 * b + j) 0 ≡ maskOf (slots b) j
+mask-at : (b j : ℕ) → b < 30 → j < 8 → getD maskTable (8 * b + j) 0 ≡ strayMask (slots b) j
 unfolding maskTable rowAt rows
 mask-at b j h l = masks-at rows b j h l
 

@@ -5,11 +5,11 @@ use Rattle.classes.specs.declared.Row.{Row}
 use Rattle.classes.specs.Classes.{rows}
 
 -- of the 64 bits of slot word j of a run's first page, those that name none of n slots
-abbrev pub maskOf : ℕ → ℕ → ℕ
-maskOf n j = 2 ^ 64 - 2 ^ (n - 64 * j)
+abbrev pub strayMask : ℕ → ℕ → ℕ
+strayMask n j = 2 ^ 64 - 2 ^ (n - 64 * j)
 
 abbrev pub maskRow : ℕ → List ℕ → List ℕ
-maskRow n l = maskOf n 0 ∷ maskOf n 1 ∷ maskOf n 2 ∷ maskOf n 3 ∷ maskOf n 4 ∷ maskOf n 5 ∷ maskOf n 6 ∷ maskOf n 7 ∷ l
+maskRow n l = strayMask n 0 ∷ strayMask n 1 ∷ strayMask n 2 ∷ strayMask n 3 ∷ strayMask n 4 ∷ strayMask n 5 ∷ strayMask n 6 ∷ strayMask n 7 ∷ l
 
 unfoldable pub masksOf : List Row → List ℕ
 masksOf [] = []

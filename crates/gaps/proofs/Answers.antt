@@ -11,8 +11,8 @@ use Rattle.bitrow.proofs.Rows.{lt-or-ge}
 use Rattle.gaps.specs.declared.Gap.{Gap}
 use Rattle.gaps.specs.declared.Found.{Found}
 use Rattle.gaps.specs.declared.Found.the-variants.{At, Nothing}
-use Rattle.gaps.specs.Gaps.{findInChunk, orElse, findFrom, findPages, IsBest, HoldsNone, IsPlace, GapsMean}
-use Rattle.gaps.proofs.Listed.{listed-gap, gap-listed}
+use Rattle.gaps.specs.Gaps.{gapsOf, findInChunk, orElse, findFrom, findPages, IsBest, HoldsNone, IsPlace, GapsMean}
+use Rattle.gaps.proofs.Listed.{in-mem, mem-in, listed-gap, gap-listed}
 use Rattle.gaps.proofs.Choice.{InChunk, chunk-means}
 
 module _ (c : ℕ) (bits : List ℕ) (n : ℕ) where
@@ -92,7 +92,7 @@ module _ (c : ℕ) (bits : List ℕ) (n : ℕ) where
 
 pub gaps-mean : GapsMean
 gaps-mean = record {
-  listed = λ bits k x. (listed-gap bits k x, gap-listed bits k x);
+  listed = λ bits k x. (λ m. listed-gap bits k x (mem-in m), λ i. in-mem x (gapsOf bits k) (gap-listed bits k x i));
   found = λ c bits n g. (found-place c bits n g, place-found c bits n g);
   nothing = λ c bits n. (nothing-none c bits n, none-nothing c bits n);
 }

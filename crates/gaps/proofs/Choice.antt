@@ -11,9 +11,9 @@ use Rattle.bitrow.proofs.Rows.{lt-or-ge}
 use Rattle.gaps.specs.declared.Gap.{Gap}
 use Rattle.gaps.specs.declared.Found.{Found}
 use Rattle.gaps.specs.declared.Found.the-variants.{At, Nothing}
-use Rattle.gaps.specs.Gaps.{gapsOf, noGap, shortest, foundAt, findInChunk, IsBest, HoldsNone, In}
+use Rattle.gaps.specs.Gaps.{gapsOf, noGap, shortest, foundAt, findInChunk, IsBest, HoldsNone}
 use Rattle.gaps.proofs.Scan.{better-took, better-short, better-kept}
-use Rattle.gaps.proofs.Listed.{listed-gap, gap-listed, Rising, gaps-rise}
+use Rattle.gaps.proofs.Listed.{In, listed-gap, gap-listed, Rising, gaps-rise}
 
 -- y is the shortest of best and the gaps of xs that hold n pages, and the first of those
 record Chosen (n : ℕ) (best : Gap) (xs : List Gap) (y : Gap) : Type 0 where

@@ -2,15 +2,30 @@
 -- Assumes nothing.
 use mathlib.Core.Path.{_≡_, sym, ap, ap₂, subst}
 use mathlib.Core.Logic.{_⊎_, inl, inr, ⊎-elim}
-use mathlib.Core.List.{List, [], _∷_}
+use mathlib.Core.List.{List, [], _∷_, List·Memᴰ, List·Memᴰ·head, List·Memᴰ·tail}
 use Prim.Native.Nat.{ℕ, zero, suc, _+_, _-_, _*_, _≤_, _<_}
 use native.Mathlib.Nat.{eq-or-lt-of-le}
 use native.Mathlib.Omega.{arith}
 use Rattle.bitrow.specs.Row.{bitAt}
 use Rattle.bitrow.proofs.Rows.{lt-or-ge}
 use Rattle.gaps.specs.declared.Gap.{Gap}
-use Rattle.gaps.specs.Gaps.{gap, withGap, gapsFrom, gapsOf, IsGap, In}
+use Rattle.gaps.specs.Gaps.{gap, withGap, gapsFrom, gapsOf, IsGap}
 use Rattle.gaps.proofs.Scan.{free-or-taken, gaps-free, gaps-taken}
+
+-- ---- membership, by cases of the list
+
+abbrev pub In : Gap → List Gap → Type 0
+In x [] = ⊥
+In x (y ∷ ys) = (x ≡ y) ⊎ In x ys
+
+pub in-mem : (x : Gap) (l : List Gap) → In x l → List·Memᴰ x l
+in-mem x [] i = absurd i
+in-mem x (y ∷ ys) (inl e) = List·Memᴰ·head e
+in-mem x (y ∷ ys) (inr i) = List·Memᴰ·tail (in-mem x ys i)
+
+pub mem-in : {x : Gap} {l : List Gap} → List·Memᴰ x l → In x l
+mem-in (List·Memᴰ·head e) = inl e
+mem-in (List·Memᴰ·tail m) = inr (mem-in m)
 
 -- ---- each of the list is a gap
 

@@ -3,9 +3,9 @@
 -- Pages are counted through the pool, page p of chunk k as 512 * k + p, and bit g of the row of page bits is 1 where page g is taken.
 -- Assumes nothing.
 use mathlib.Core.Path.{_≡_}
-use mathlib.Core.Logic.{_⊎_, _↔_}
+use mathlib.Core.Logic.{_↔_}
 use mathlib.Core.Bool.{Bool, cond, _&&_}
-use mathlib.Core.List.{List, [], _∷_}
+use mathlib.Core.List.{List, [], _∷_, List·Memᴰ}
 use Prim.Native.Nat.{ℕ, zero, suc, _+_, _-_, _*_, _/_, _≤_, _<_}
 use lib.Dec.{eqb, ltb, leb}
 use Rattle.bitrow.specs.Row.{bitAt}
@@ -113,13 +113,8 @@ pub record IsPlace (c : ℕ) (bits : List ℕ) (n g : ℕ) : Type 0 where
   pub is : IsBest bits chunk n best
   pub starts : best .at ≡ g
 
--- x is one of the list
-abbrev pub In : Gap → List Gap → Type 0
-In x [] = ⊥
-In x (y ∷ ys) = (x ≡ y) ⊎ In x ys
-
 -- The claim: the list has the gaps of the chunk and nothing else, and the answer is document 01's.
 pub record GapsMean : Type 0 where
-  pub listed : (bits : List ℕ) (k : ℕ) (x : Gap) → In x (gapsOf bits k) ↔ IsGap bits k x
+  pub listed : (bits : List ℕ) (k : ℕ) (x : Gap) → List·Memᴰ x (gapsOf bits k) ↔ IsGap bits k x
   pub found : (c : ℕ) (bits : List ℕ) (n g : ℕ) → (findPages c bits n ≡ At g) ↔ IsPlace c bits n g
   pub nothing : (c : ℕ) (bits : List ℕ) (n : ℕ) → (findPages c bits n ≡ Nothing) ↔ ((k : ℕ) → k < c → HoldsNone bits k n)
