@@ -1,28 +1,19 @@
 -- What each page shows. Assumes nothing.
 use mathlib.Core.Path.{_≡_, sym, ap, ap₂, _∙_}
-use mathlib.Core.Logic.{_≢_, ⊎-elim}
-use mathlib.Core.Bool.{Bool, true, false}
 use mathlib.Core.List.{List}
-use Prim.Native.Nat.{ℕ, suc, _+_, _-_, _*_, _/_, _%_, _≤_, _<_}
+use Prim.Native.Nat.{ℕ, suc, _+_, _*_, _/_, _≤_, _<_}
 use Prim.Native.Char.{code}
 use native.Mathlib.Nat.{div-le-of-le-mul, div-mul-le-self, mul-div-left, mul-le-mul-right}
 use native.Mathlib.Omega.{arith}
-use lib.ListN.{getD}
-use borrow.Author.Tests.{lt-ltb, le-ltb, ne-eqb}
-use Rattle.bitrow.specs.Row.{isSet, countBits}
+use borrow.Author.Tests.{lt-ltb, le-ltb}
+use Rattle.bitrow.specs.Row.{countBits}
 use Rattle.bitrow.proofs.Counts.{count-le}
 use Rattle.classes.specs.declared.Row.{Row}
 use Rattle.classes.specs.Classes.{rowAt, size, slots}
 use Rattle.classes.proofs.ClassLaws.{row-facts, size-read, slots-read}
 use Rattle.records.specs.declared.Kind.{Kind}
-use Rattle.records.specs.declared.Kind.the-variants.{Edge, Free, Large, Class, Inner}
-use Rattle.records.specs.Kinds.{kindOf}
-use Rattle.records.specs.Pool.{Pool, isEdge, kindAt}
-use Rattle.records.specs.Calls.{admitOf}
+use Rattle.records.specs.Pool.{Pool, kindAt}
 use Rattle.records.proofs.Flags.{lt-cases}
-use Rattle.records.proofs.KindLaws.{kind-inner, kind-zero}
-use Rattle.records.proofs.WordLaws.{page-word, page-class, page-large, page-low, page-edge, page-free}
-use Rattle.records.proofs.AdmitLaws.{admitted}
 use Rattle.cells.specs.declared.Cell.{Cell}
 use Rattle.cells.specs.Means.{CellsMean}
 use Rattle.cells.specs.Cells.{cell, tenths, markOf, runCell, goesOn, cellOf, cellAt}
@@ -76,57 +67,23 @@ run-slots b l e f =
 pub run-most : (ss : List ℕ) (i : ℕ) {s n : ℕ} → n ≡ countBits ss i s → n ≤ s
 run-most ss i {s} e = let h = count-le s ss i in omega arith
 
-pub class-few : (c : ℕ) (p : Pool) → admitOf c p ≡ 0 → (g : ℕ) → g < 512 * c → 0x80000000 ≤ getD (p .words) g 0
-    → getD (p .words) g 0 < 0xC0000000 → getD (p .words) g 0 - 0x80000000 < 30
-class-few c p ok g l a b = let (x, h) = page-class c p (admitted c p ok .whole) g l a b in omega arith
-
 -- a cell with what the next one relies on
+abbrev pub Drawn : Cell → Cell → Type 0
+Drawn s x = (s ≡ x) × (s .joined ≤ 1) × (s .level ≤ 10)
+
+-- the cell of page g
 abbrev pub Shows : Pool → Cell → ℕ → Cell → Type 0
-Shows p last g s = (s ≡ cellAt p last g) × (s .joined ≤ 1) × (s .level ≤ 10)
+Shows p last g s = Drawn s (cellAt p last g)
 
-kind-shown : (p : Pool) (last : Cell) (g : ℕ) (k : Kind) → kindAt p g ≡ k → cellOf p g last k ≡ cellAt p last g
+-- in the arm of a match: the page is of the kind j
+pub shown : (p : Pool) (last : Cell) (g : ℕ) (j : Kind) {k : Kind} {s : Cell} → k ≡ kindAt p g → k ≡ j → Drawn s (cellOf p g last j)
+    → Shows p last g s
 unfolding cellAt
-kind-shown p last g k e = ap (cellOf p g last) (sym e)
+shown p last g j e f h = (h .0 ∙ ap (cellOf p g last) (sym f ∙ e), h .1, h .2)
 
-module _ (c : ℕ) (p : Pool) (ok : admitOf c p ≡ 0) (g : ℕ) (l : g < 512 * c) (last : Cell) where
-  pub shown-edge : g % 512 ≡ 0 → Shows p last g (cell (code "@") (code "e") 0 0 0)
-  shown-edge e = (kind-shown p last g Edge (page-edge c p (admitted c p ok .whole) g l e), omega arith, omega arith)
+pub large-shown : {s : Cell} (n k : ℕ) → n ≡ k + 1 → Drawn s (cell (code "L") (code "l") 0 0 n) → Drawn s (cell (code "L") (code "l") 0 0 (suc k))
+large-shown n k e h = let y : n ≡ suc k = omega arith in (h .0 ∙ ap (cell (code "L") (code "l") 0 0) y, h .1, h .2)
 
-  module _ (n : g % 512 ≢ 0) {t : Bool} (i : t ≡ isSet (p .bits) g) where
-    pub shown-free : t ≡ false → Shows p last g (cell (code ".") (code "f") 0 0 0)
-    shown-free z = (kind-shown p last g Free (page-free c p (admitted c p ok .whole) g l (sym i ∙ z)), omega arith, omega arith)
-
-    module _ (z : t ≡ true) where
-      -- the kind of a taken page
-      taken : kindAt p g ≡ kindOf false true (getD (p .words) g 0)
-      unfolding kindAt isEdge
-      taken = ap₂ (λ (u v : Bool). kindOf u v (getD (p .words) g 0)) (ne-eqb (g % 512) 0 n) (sym i ∙ z)
-
-      -- a page behind a run's first, by its word
-      behind : (w : ℕ) → kindAt p g ≡ Inner w → last .level ≤ 10 → {s : Cell} → s ≡ goesOn last → Shows p last g s
-      unfolding goesOn
-      behind w e h f = (f ∙ kind-shown p last g (Inner w) e, rw f (omega arith), rw f h)
-
-      pub shown-low : getD (p .words) g 0 < 0x40000001 → last .level ≤ 10 → {s : Cell} → s ≡ goesOn last → Shows p last g s
-      shown-low a =
-          let w : getD (p .words) g 0 ≡ 0 =
-          ⊎-elim (λ h. page-word p g h) (λ h. page-word p g h) (page-low c p (admitted c p ok .whole) g l a) in
-          behind (getD (p .words) g 0) (taken ∙ kind-zero (getD (p .words) g 0) w)
-
-      pub shown-high : 0xC0000000 ≤ getD (p .words) g 0 → last .level ≤ 10 → {s : Cell} → s ≡ goesOn last → Shows p last g s
-      shown-high a = behind (getD (p .words) g 0) (taken ∙ kind-inner (getD (p .words) g 0) a)
-
-      pub shown-large : 0x40000001 ≤ getD (p .words) g 0 → getD (p .words) g 0 < 0x80000000 → {m : ℕ} → m ≡ getD (p .words) g 0 - 0x40000000
-          → Shows p last g (cell (code "L") (code "l") 0 0 m)
-      shown-large a b {m} e =
-          let (x, h) = page-large c p (admitted c p ok .whole) g l n a b in
-          let y : m ≡ suc (getD (p .words) g 0 - 0x40000001) = omega arith in
-          let z = ap (cell (code "L") (code "l") 0 0) y in
-          (z ∙ kind-shown p last g (Large (getD (p .words) g 0 - 0x40000001)) h, omega arith, omega arith)
-
-  pub shown-class : 0x80000000 ≤ getD (p .words) g 0 → getD (p .words) g 0 < 0xC0000000 → (b : ℕ) → b ≡ getD (p .words) g 0 - 0x80000000
-      → {s : Cell} → (s ≡ runCell b (tenths (countBits (p .slots) (512 * g) (slots b)) (slots b))) × (s .joined ≤ 1) × (s .level ≤ 10)
-      → Shows p last g s
-  shown-class a b k e {s} h =
-      let (x, m) = page-class c p (admitted c p ok .whole) g l a b in
-      (h .0 ∙ kind-shown p last g (Class k) (m ∙ ap Class (sym e)), h .1, h .2)
+pub behind-shown : (last : Cell) {s : Cell} → last .level ≤ 10 → s ≡ goesOn last → Drawn s (goesOn last)
+unfolding goesOn
+behind-shown last h f = (f, rw f (omega arith), rw f h)

@@ -6,7 +6,7 @@ ghost use Rattle.bitrow.specs.Row.{countBits};
 ghost use Rattle.classes.specs.Classes.{slots};
 ghost use Rattle.records.specs.Pool.{pool};
 ghost use Rattle.records.specs.Calls.{admitOf};
-ghost use Rattle.cells.specs.Cells.{tenths, markOf, runCell, goesOn, cellAt};
+ghost use Rattle.cells.specs.Cells.{cell, tenths, markOf, runCell, goesOn, cellAt};
 ghost use Rattle.cells.specs.Means.{CellsMean};
 
 // What a page shows: its character, the letter of its fill, 1 where it goes on with the cell before, how full it is in tenths, its
@@ -35,6 +35,19 @@ fn level_mark(t: u64) -> u8
         return 48 + t as u8;
     }
     b'X'
+}
+
+// A page that neither goes on with the cell before nor has slots.
+fn plain_cell(mark: u8, fill: u8, label: u64) -> Cell
+    ensures { λ r. ⌜ (r ≡ cell mark fill 0 0 label) × (r .joined ≤ 1) × (r .level ≤ 10) ⌝ }
+{
+    Cell {
+        mark: mark,
+        fill: fill,
+        joined: 0,
+        level: 0,
+        label: label,
+    }
 }
 
 // The first page of a run of class b, at page g.
@@ -75,41 +88,27 @@ pub fn page_cell(c: u64, bits: &[u64], words: &[u32], slots: &[u64], g: usize, l
     ensures { λ r. ⌜ (r ≡ cellAt (pool (now (bits .entry)) (now (words .entry)) (now (slots .entry))) last g)
         × (r .joined ≤ 1) × (r .level ≤ 10) ⌝ }
 {
-    if g % 512 == 0 {
-        return Cell {
-            mark: b'@',
-            fill: b'e',
-            joined: 0,
-            level: 0,
-            label: 0,
-        };
+    let k = records::kind_at(c, bits, words, slots, g);
+    match k {
+        records::Kind::Edge => {
+            return plain_cell(b'@', b'e', 0);
+        }
+        records::Kind::Free => {
+            return plain_cell(b'.', b'f', 0);
+        }
+        records::Kind::Damaged => {
+            return plain_cell(b'?', b'f', 0);
+        }
+        records::Kind::Large(n) => {
+            return plain_cell(b'L', b'l', widths::wide64(n + 1));
+        }
+        records::Kind::Class(b) => {
+            return run_cell(slots, g, b);
+        }
+        records::Kind::Inner(_) => {
+            return goes_on(last);
+        }
     }
-    if !bitrow::is_set(bits, g) {
-        return Cell {
-            mark: b'.',
-            fill: b'f',
-            joined: 0,
-            level: 0,
-            label: 0,
-        };
-    }
-    let w = words[g];
-    if w < 0x40000001 {
-        return goes_on(last);
-    }
-    if w < 0x80000000 {
-        return Cell {
-            mark: b'L',
-            fill: b'l',
-            joined: 0,
-            level: 0,
-            label: widths::wide32(w - 0x40000000),
-        };
-    }
-    if 0xC0000000 <= w {
-        return goes_on(last);
-    }
-    run_cell(slots, g, (w - 0x80000000) as usize)
 }
 
 // What a run's mark tells.

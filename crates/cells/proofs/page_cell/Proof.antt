@@ -1,94 +1,99 @@
 -- `cells::page_cell` meets its contract. Assumes nothing.
-use mathlib.Core.Path.{refl}
+use mathlib.Core.Path.{sym, _∙_}
 use native.Mathlib.Omega.{arith}
-use borrow.Author.Tests.{not-true, not-false}
+use Rattle.records.specs.declared.Kind.the-variants.{Edge, Free, Damaged, Large, Class, Inner}
+use Rattle.records.proofs.RunLaws.{large-at-low, class-at-low}
 use Rattle.records.proofs.AdmitLaws.{admitted}
-use Rattle.cells.proofs.CellLaws.{shown-edge, shown-free, shown-low, shown-high, shown-large, class-few, shown-class}
+use Rattle.cells.proofs.CellLaws.{shown, large-shown, behind-shown}
 use borrow.Author.Needs.{needs}
 use Rattle.cells.proofs.page_cell.Statement.{statement}
 use Rattle.cells.proofs.page_cell.Tie as tie
 
-returns : tie.Need-returns
-returns c = let e = c .before .before .before .before .pre in shown-edge _ _ (e .0) _ (e .1) _ (c .if1 .taken)
+kind-at-requires : tie.Need-kind-at-requires
+kind-at-requires c κs = search needs
 
-is-set-requires : tie.Need-is-set-requires
-is-set-requires c κs = let s = admitted _ _ (c .before .before .before .before .pre .0) .shape in omega arith
+enum-told : tie.Need-enum-told
+enum-told c = search needs
+
+plain-cell-requires : tie.Need-plain-cell-requires
+plain-cell-requires c κs = search needs
+
+returns : tie.Need-returns
+returns c = shown _ _ _ Edge (c .before .before .before .kind-at .ensures) (c .before .enum-told .given .1) (c .plain-cell .ensures)
+
+enum-told-2 : tie.Need-enum-told-2
+enum-told-2 c = search needs
+
+plain-cell-requires-2 : tie.Need-plain-cell-requires-2
+plain-cell-requires-2 c κs = search needs
 
 returns-2 : tie.Need-returns-2
-returns-2 c =
-    let e = c .before .before .before .before .before .before .pre in
-    shown-free _ _ (e .0) _ (e .1) _ (c .before .before .if1 .left) (c .before .is-set .ensures) (not-true _ (c .if2 .taken))
+returns-2 c = shown _ _ _ Free (c .before .before .before .kind-at .ensures) (c .before .enum-told2 .given .1) (c .plain-cell2 .ensures)
 
-mul-w : tie.Need-mul-w
-mul-w c = let s = admitted _ _ (c .before .before .before .before .before .before .pre .0) .shape in record { fits = omega arith }
+enum-told-3 : tie.Need-enum-told-3
+enum-told-3 c = search needs
 
-shared-slice-read-w : tie.Need-shared-slice-read-w
-shared-slice-read-w c = let s = admitted _ _ (c .before .before .before .before .before .before .before .pre .0) .shape in omega arith
+plain-cell-requires-3 : tie.Need-plain-cell-requires-3
+plain-cell-requires-3 c κs = search needs
+
+returns-3 : tie.Need-returns-3
+returns-3 c = shown _ _ _ Damaged (c .before .before .before .kind-at .ensures) (c .before .enum-told3 .given .1) (c .plain-cell3 .ensures)
+
+enum-known-k : tie.Need-enum-known-k
+enum-known-k c = search needs
+
+add-wide64 : tie.Need-add-wide64
+add-wide64 c = let k = large-at-low _ _ _ (sym (c .before .before .before .kind-at .ensures) ∙ c .before .k .given .1) in record { fits = omega arith }
+
+wide64-requires : tie.Need-wide64-requires
+wide64-requires c κs = search needs
+
+plain-cell-requires-4 : tie.Need-plain-cell-requires-4
+plain-cell-requires-4 c κs = search needs
+
+returns-4 : tie.Need-returns-4
+returns-4 c = shown _ _ _ (Large _) (c .before .before .before .before .before .kind-at .ensures) (c .before .before .before .k .given .1) (large-shown _ _ (c .before .wide64 .ensures) (c .plain-cell4 .ensures))
+
+enum-known-k-2 : tie.Need-enum-known-k-2
+enum-known-k-2 c = search needs
+
+run-cell-requires : tie.Need-run-cell-requires
+run-cell-requires c κs = let s = admitted _ _ (c .before .before .before .before .before .before .before .pre .0) .shape in (class-at-low _ _ _ (sym (c .before .before .before .kind-at .ensures) ∙ c .before .k2 .given .1), omega arith, omega arith)
+
+returns-5 : tie.Need-returns-5
+returns-5 c = shown _ _ _ (Class _) (c .before .before .before .before .kind-at .ensures) (c .before .before .k2 .given .1) (c .run-cell .ensures)
+
+enum-told-4 : tie.Need-enum-told-4
+enum-told-4 c = search needs
 
 goes-on-requires : tie.Need-goes-on-requires
 goes-on-requires c κs = search needs
 
-returns-3 : tie.Need-returns-3
-returns-3 c =
-    let e = c .before .before .before .before .before .before .before .before .before .pre in
-    shown-low _ _ (e .0) _ (e .1) _ (c .before .before .before .before .before .if1 .left)
-    (c .before .before .before .before .is-set .ensures) (not-false _ (c .before .before .before .if2 .left)) (c .before .if3 .taken) (e .2)
-    (c .goes-on .ensures)
-
-sub-wide32 : tie.Need-sub-wide32
-sub-wide32 c = search needs
-
-wide32-requires : tie.Need-wide32-requires
-wide32-requires c κs = search needs
-
-returns-4 : tie.Need-returns-4
-returns-4 c =
-    let e = c .before .before .before .before .before .before .before .before .before .before .pre in
-    shown-large _ _ (e .0) _ (e .1) _ (c .before .before .before .before .before .before .if1 .left)
-    (c .before .before .before .before .before .is-set .ensures) (not-false _ (c .before .before .before .before .if2 .left))
-    (c .before .before .if3 .left)
-    (c .before .if4 .taken) (c .wide32 .ensures)
-
-goes-on-requires-2 : tie.Need-goes-on-requires-2
-goes-on-requires-2 c κs = search needs
-
-returns-5 : tie.Need-returns-5
-returns-5 c =
-    let e = c .before .before .before .before .before .before .before .before .before .before .before .pre in
-    shown-high _ _ (e .0) _ (e .1) _ (c .before .before .before .before .before .before .before .if1 .left)
-    (c .before .before .before .before .before .before .is-set .ensures)
-    (not-false _ (c .before .before .before .before .before .if2 .left)) (c .before .if5 .taken) (e .2)
-    (c .goes-on2 .ensures)
-
-cast-run-cell : tie.Need-cast-run-cell
-cast-run-cell c = search needs
-
-run-cell-requires : tie.Need-run-cell-requires
-run-cell-requires c κs =
-    let e = c .before .before .before .before .before .before .before .before .before .before .pre in
-    let s = admitted _ _ (e .0) .shape in (class-few _ _ (e .0) _ (e .1) (c .before .if4 .left) (c .if5 .left), omega arith, omega arith)
-
 returns-6 : tie.Need-returns-6
-returns-6 c =
-    let e = c .before .before .before .before .before .before .before .before .before .before .before .pre in
-    shown-class _ _ (e .0) _ (e .1) _ (c .before .before .if4 .left) (c .before .if5 .left) _ refl (c .run-cell .ensures)
+returns-6 c = shown _ _ _ (Inner _) (c .before .before .before .kind-at .ensures) (c .before .enum-told4 .given .1) (behind-shown _ (c .before .before .before .before .before .before .before .pre .2) (c .goes-on .ensures))
 
 pub page-cell-spec : {M : Type 1} → statement M
 page-cell-spec =
     tie.close
     (tie.spec
+    kind-at-requires
+    enum-told
+    plain-cell-requires
     returns
-    is-set-requires
+    enum-told-2
+    plain-cell-requires-2
     returns-2
-    mul-w
-    shared-slice-read-w
-    goes-on-requires
+    enum-told-3
+    plain-cell-requires-3
     returns-3
-    sub-wide32
-    wide32-requires
+    enum-known-k
+    add-wide64
+    wide64-requires
+    plain-cell-requires-4
     returns-4
-    goes-on-requires-2
-    returns-5
-    cast-run-cell
+    enum-known-k-2
     run-cell-requires
+    returns-5
+    enum-told-4
+    goes-on-requires
     returns-6)
