@@ -1,20 +1,19 @@
 -- The blocks of a run's slots, of a page and of all pages, read upward. Assumes nothing.
 use mathlib.Core.Path.{_≡_, sym, ap, _∙_}
-use mathlib.Core.Logic.{_≢_}
 use mathlib.Core.Bool.{Bool, true}
 use mathlib.Core.List.{List, [], _∷_, _++_}
-use Prim.Native.Nat.{ℕ, suc, _+_, _-_, _*_, _%_, _≤_, _<_}
+use Prim.Native.Nat.{ℕ, _+_, _-_, _*_, _≤_, _<_}
+use native.Mathlib.Numerals.{add-one}
 use native.Mathlib.Omega.{arith}
-use lib.ListN.{length, getD}
+use lib.ListN.{length}
 use Rattle.bitrow.specs.Row.{bitAt, isSet, nextBit}
 use Rattle.bitrow.proofs.Rows.{first-at}
 use Rattle.bitrow.proofs.Marks.{one-set, zero-clear}
 use Rattle.classes.specs.Classes.{slots}
 use Rattle.classes.proofs.ClassLaws.{Cut}
+use Rattle.records.specs.declared.Kind.{Kind}
 use Rattle.records.specs.declared.Kind.the-variants.{Large, Class}
-use Rattle.records.specs.Pool.{Pool, slotAt}
-use Rattle.records.specs.Sound.{sound}
-use Rattle.records.proofs.WordLaws.{page-class, page-large}
+use Rattle.records.specs.Pool.{Pool, kindAt, slotAt}
 use Rattle.blocks.specs.Blocks.{block, Block, slotBlock, when, pageBlocks}
 use Rattle.blocks.proofs.FlatLaws.{flat-over, flat-step, flat-drop}
 use Rattle.blocks.proofs.PageLaws.{kind-blocks, liveFrom, from-step}
@@ -83,23 +82,15 @@ module _ (bits : List ℕ) (g b : ℕ) {z n : ℕ} (k : Cut b z n) where
         (slots-at bits g b s n l taken))
         (slots-skip bits g b t)
 
--- ---- the blocks of a page
+-- ---- the blocks of a page, in the arm of a match that tells its kind
 
-module _ (c : ℕ) (p : Pool) (s : sound c p ≡ true) (g : ℕ) (l : g < 512 * c) where
-  pub page-slots : 0x80000000 ≤ getD (p .words) g 0 → getD (p .words) g 0 < 0xC0000000
-      → (getD (p .words) g 0 < 0x8000001E)
-      × (slotBlocks (p .slots) g (getD (p .words) g 0 - 0x80000000) 0 (slots (getD (p .words) g 0 - 0x80000000)) ≡ pageBlocks p g)
+module _ (p : Pool) (g : ℕ) {k : Kind} (e : k ≡ kindAt p g) where
+  pub page-slots : (b : ℕ) → k ≡ Class b → slotBlocks (p .slots) g b 0 (slots b) ≡ pageBlocks p g
   unfolding slotBlocks slotAt
-  page-slots a b =
-      let (n, h) = page-class c p s g l a b in
-      (n, kind-blocks p g (Class (getD (p .words) g 0 - 0x80000000)) h)
+  page-slots b f = kind-blocks p g (Class b) (sym e ∙ f)
 
-  pub page-run : g % 512 ≢ 0 → 0x40000001 ≤ getD (p .words) g 0 → getD (p .words) g 0 < 0x80000000
-      → (block (4096 * g) (4096 * (getD (p .words) g 0 - 0x40000000)) ∷ [] ≡ pageBlocks p g) × (getD (p .words) g 0 < 0x40000200)
-  page-run n a b =
-      let (m, h) = page-large c p s g l n a b in
-      let e : getD (p .words) g 0 - 0x40000000 ≡ suc (getD (p .words) g 0 - 0x40000001) = omega arith in
-      (ap (λ (k : ℕ). block (4096 * g) (4096 * k) ∷ []) e ∙ kind-blocks p g (Large (getD (p .words) g 0 - 0x40000001)) h, m)
+  pub page-run : (n : ℕ) → k ≡ Large n → block (4096 * g) (4096 * (n + 1)) ∷ [] ≡ pageBlocks p g
+  page-run n f = ap (λ (m : ℕ). block (4096 * g) (4096 * m) ∷ []) (add-one n) ∙ kind-blocks p g (Large n) (sym e ∙ f)
 
 -- ---- the blocks of all pages
 

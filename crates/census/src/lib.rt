@@ -55,7 +55,7 @@ fn write_slots(slots: &[u64], g: usize, b: usize, room: &mut [u64], i: usize) ->
     k
 }
 
-// Writes the blocks of the run that starts at page g. The word of page 0 of a chunk reads like that of a large run of one page.
+// Writes the blocks of the run that starts at page g.
 fn write_page(
     c: u64,
     bits: &[u64],
@@ -68,20 +68,18 @@ fn write_page(
     requires { ⌜ (admitOf c (pool (now bits) (now words) (now slots)) ≡ 0) × (g < 512 * c) × (i + 2 * length (pageBlocks (pool (now bits) (now words) (now slots)) g) ≤ length (now room)) ⌝ }
     ensures { λ r. ⌜ Wrote (now (room .exit)) (now (room .entry)) r i (pageBlocks (pool (now (bits .entry)) (now (words .entry)) (now (slots .entry))) g) ⌝ }
 {
-    let w = words[g];
-    if w < 0x40000001 {
-        return i;
+    let k = records::kind_at(c, bits, words, slots, g);
+    match k {
+        records::Kind::Class(b) => {
+            return write_slots(slots, g, b, room, i);
+        }
+        records::Kind::Large(n) => {
+            return write_block(room, i, 4096 * g, 4096 * (n + 1));
+        }
+        _ => {
+            return i;
+        }
     }
-    if 0xC0000000 <= w {
-        return i;
-    }
-    if 0x80000000 <= w {
-        return write_slots(slots, g, (w - 0x80000000) as usize, room, i);
-    }
-    if g % 512 == 0 {
-        return i;
-    }
-    write_block(room, i, 4096 * g, 4096 * ((w - 0x40000000) as usize))
 }
 
 // Writes all live blocks, page by page.

@@ -4,23 +4,20 @@ use mathlib.Core.Logic.{_≢_, by-cases}
 use mathlib.Core.Bool.{Bool, true, false, false≢true}
 use mathlib.Core.Option.{some, Option·none-ne-some, Option·some-injective}
 use mathlib.Core.List.{List, [], _∷_}
-use Prim.Native.Nat.{ℕ, zero, suc, _+_, _-_, _*_, _/_, _%_, _≤_, _<_}
+use Prim.Native.Nat.{ℕ, zero, suc, _+_, _*_, _/_, _%_, _≤_, _<_}
 use native.Mathlib.Decide.{ℕ-discrete}
 use native.Mathlib.Omega.{arith}
-use lib.ListN.{length, getD}
-use borrow.Author.Tests.{ne-eqb}
+use lib.ListN.{length}
 use Rattle.bitrow.specs.Row.{digit, bitAt, isSet, countBits}
 use Rattle.records.specs.declared.Kind.{Kind}
 use Rattle.records.specs.declared.Kind.the-variants.{Edge, Free, Damaged, Large, Class, Inner}
-use Rattle.records.specs.Kinds.{kindOf}
-use Rattle.records.specs.Pool.{Pool, isEdge, kindAt}
+use Rattle.records.specs.Pool.{Pool, kindAt}
 use Rattle.records.specs.Sound.{step, sound}
 use Rattle.records.specs.Runs.{spanOf}
 use Rattle.records.specs.Calls.{admitOf}
-use Rattle.records.proofs.Flags.{eq-cases, lt-cases, le-cases}
 use Rattle.records.proofs.WalkLaws.{walk, walk-next, sound-walks, step-inner}
 use Rattle.records.proofs.RunLaws.{begins-run}
-use Rattle.records.proofs.WordLaws.{page-free, page-edge}
+use Rattle.records.proofs.WordLaws.{page-word, page-large, page-inside, page-edge, page-free}
 use Rattle.records.proofs.AdmitLaws.{admitted, refused, served}
 use Rattle.blocks.specs.Blocks.{live}
 use Rattle.totals.specs.declared.Tally.{Tally}
@@ -31,27 +28,20 @@ use Rattle.totals.proofs.TallyLaws.{digit-set}
 
 -- ---- free pages are those whose page bit is 0
 
--- what holds of each kind that the word of a taken page other than page 0 can mean
-plain-kind : (P : Kind → Type 0) → P Damaged → ((k : ℕ) → P (Large k)) → ((b : ℕ) → P (Class b)) → ((w : ℕ) → P (Inner w)) → (w : ℕ)
-    → P (kindOf false true w)
-plain-kind P d l c i w =
-    le-cases P 0xC0000000 w (λ x. i w)
-    (λ x. le-cases P 0x80000000 w (λ y. lt-cases P w 0x8000001E (λ z. c (w - 0x80000000)) (λ z. d))
-    (λ y. le-cases P 0x40000001 w (λ z. lt-cases P w 0x40000200 (λ u. l (w - 0x40000001)) (λ u. d)) (λ z. eq-cases P w 0 (λ u. i w) (λ u. d))))
-
-taken-not-free : (v : Bool) (w : ℕ) → freeOf (kindOf v true w) ≡ 0
-taken-not-free true w = eq-cases (λ (k : Kind). freeOf k ≡ 0) w 0x40000001 (λ e. refl) (λ e. refl)
-taken-not-free false w = plain-kind (λ (k : Kind). freeOf k ≡ 0) refl (λ k. refl) (λ b. refl) (λ x. refl) w
-
 module _ (c : ℕ) (p : Pool) (s : sound c p ≡ true) where
+  taken-not-free : (g : ℕ) → g < 512 * c → isSet (p .bits) g ≡ true → (k : Kind) → kindAt p g ≡ k → freeOf k ≡ 0
+  taken-not-free g l t Edge e = refl
+  taken-not-free g l t Free e = let w = page-word p g e in ap freeOf (sym e ∙ page-inside c p s g l t (omega arith))
+  taken-not-free g l t Damaged e = refl
+  taken-not-free g l t (Large k) e = refl
+  taken-not-free g l t (Class b) e = refl
+  taken-not-free g l t (Inner w) e = refl
+
   page-bit : (g : ℕ) → g < 512 * c → freeOf (kindAt p g) + bitAt (p .bits) g ≡ 1
-  unfolding kindAt
   page-bit g l = ap (λ (x : ℕ). freeOf (kindAt p g) + x) (sym (digit-set (p .bits) g)) ∙ go (isSet (p .bits) g) refl
     where
       go : (v : Bool) → isSet (p .bits) g ≡ v → freeOf (kindAt p g) + digit (isSet (p .bits) g) ≡ 1
-      go true e =
-          ap (λ (t : Bool). freeOf (kindOf (isEdge g) t (getD (p .words) g 0)) + digit t) e
-          ∙ ap (λ (x : ℕ). x + 1) (taken-not-free (isEdge g) (getD (p .words) g 0))
+      go true e = ap₂ (λ (x : ℕ) (t : Bool). x + digit t) (taken-not-free g l e (kindAt p g) refl) e
       go false e = ap₂ (λ (k : Kind) (t : Bool). freeOf k + digit t) (page-free c p s g l e) e
 
   free-count : (i n : ℕ) → i + n ≤ 512 * c → sum (λ g. freeOf (kindAt p g)) i n + countBits (p .bits) i n ≡ n
@@ -124,19 +114,20 @@ walk-share K (suc n) st g h =
     let b = walk-share K n (s .due) (suc g) (s .walks) in omega arith
 
 -- page 0 is every 512th page
-not-edge : (t : Bool) (w : ℕ) → edgeOf (kindOf false t w) ≡ 0
-not-edge false w = eq-cases (λ (k : Kind). edgeOf k ≡ 0) w 0 (λ e. refl) (λ e. refl)
-not-edge true w = plain-kind (λ (k : Kind). edgeOf k ≡ 0) refl (λ k. refl) (λ b. refl) (λ x. refl) w
-
 module _ (c : ℕ) (p : Pool) (s : sound c p ≡ true) where
+  not-edge : (g : ℕ) → g < 512 * c → g % 512 ≢ 0 → (k : Kind) → kindAt p g ≡ k → edgeOf k ≡ 0
+  not-edge g l n Edge e = let w = page-word p g e in ap edgeOf (sym e ∙ page-large c p s g l n (omega arith) (omega arith) .1)
+  not-edge g l n Free e = refl
+  not-edge g l n Damaged e = refl
+  not-edge g l n (Large k) e = refl
+  not-edge g l n (Class b) e = refl
+  not-edge g l n (Inner w) e = refl
+
   page-first : (g : ℕ) → g < 512 * c → edgeOf (kindAt p g) + (g + 511) / 512 ≡ (suc g + 511) / 512
-  unfolding kindAt isEdge
   page-first g l =
       by-cases (ℕ-discrete (g % 512) 0)
       (λ e. let h : edgeOf (kindAt p g) ≡ 1 = ap edgeOf (page-edge c p s g l e) in omega arith)
-      (λ e. let h : edgeOf (kindAt p g) ≡ 0 =
-      ap (λ (v : Bool). edgeOf (kindOf v (isSet (p .bits) g) (getD (p .words) g 0))) (ne-eqb (g % 512) 0 e)
-      ∙ not-edge (isSet (p .bits) g) (getD (p .words) g 0) in omega arith)
+      (λ e. let h = not-edge g l e (kindAt p g) refl in omega arith)
 
   edge-count : (g n : ℕ) → g + n ≤ 512 * c → sum (λ i. edgeOf (kindAt p i)) g n + (g + 511) / 512 ≡ (g + n + 511) / 512
   unfolding sum

@@ -1,14 +1,16 @@
 -- The number of live blocks and the sum of their sizes, page by page. Assumes nothing.
 use mathlib.Core.Path.{_≡_, refl, sym, ap, ap₂, _∙_}
-use mathlib.Core.Logic.{_≢_, ⊎-elim}
+use mathlib.Core.Logic.{inl, inr}
 use mathlib.Core.Bool.{Bool, true, false}
 use mathlib.Core.List.{List, [], _∷_, _++_}
-use Prim.Native.Nat.{ℕ, zero, suc, _+_, _-_, _*_, _%_, _≤_, _<_}
+use Prim.Native.Nat.{ℕ, zero, suc, _+_, _*_, _≤_, _<_}
 use native.Mathlib.Nat.{zero-add, mul-le-mul-right}
 use native.Mathlib.Omega.{arith}
 use lib.Dec.{eqb}
 use lib.ListN.{length, getD, length-append}
 use borrow.Author.Tests.{eq-eqb, ne-eqb}
+use types.Run.{OneOf}
+use denote.Enum.Declared.{tagOf}
 use Rattle.bitrow.specs.Row.{digit, bitAt, isSet, countBits}
 use Rattle.bitrow.proofs.Rows.{bit-at-le}
 use Rattle.bitrow.proofs.Counts.{count-le}
@@ -16,18 +18,20 @@ use Rattle.classes.specs.declared.Row.{Row}
 use Rattle.classes.specs.Classes.{rowOf, rows, rowAt, size, slots}
 use Rattle.classes.proofs.ClassLaws.{any-row, size-read, slots-read}
 use Rattle.records.specs.declared.Kind.{Kind}
-use Rattle.records.specs.declared.Kind.the-variants.{Edge, Free, Large, Class, Inner}
+use Rattle.records.specs.declared.Kind.the-variants.{Edge, Free, Damaged, Large, Class, Inner}
+use Rattle.records.specs.Kinds.{behind}
 use Rattle.records.specs.Pool.{Pool, kindAt, slotAt}
-use Rattle.records.specs.Sound.{sound}
+use Rattle.records.specs.Runs.{spanOf}
 use Rattle.records.specs.Calls.{admitOf}
-use Rattle.records.proofs.WordLaws.{page-class, page-large, page-low, page-edge}
-use Rattle.records.proofs.AdmitLaws.{admitted}
+use Rattle.records.proofs.Kind.{the-type}
+use Rattle.records.proofs.KindLaws.{Bare}
+use Rattle.records.proofs.RunLaws.{class-at-low, large-at-low}
 use Rattle.blocks.specs.Blocks.{Block, slotBlock, flat, when, blocksAt, pageBlocks, live, Rising, stop, next}
-use Rattle.blocks.proofs.PageLaws.{none-high, kind-blocks, liveFrom, from-start, from-step, from-over}
+use Rattle.blocks.proofs.PageLaws.{kind-blocks, bare-none, liveFrom, from-start, from-step, from-over}
 use Rattle.blocks.proofs.KeepLaws.{admit-good}
 use Rattle.blocks.proofs.ApartLaws.{live-rising}
 use Rattle.totals.specs.declared.Tally.{Tally}
-use Rattle.totals.specs.Totals.{given, tallyOf}
+use Rattle.totals.specs.Totals.{classIn, given, tallyOf}
 
 abbrev pub tally : ℕ → ℕ → Tally
 tally n b = record { blocks = n; bytes = b }
@@ -80,54 +84,32 @@ module _ (ss : List ℕ) (g b : ℕ) where
       when-given (isSet ss (512 * g + i)) (slotBlock g b i) (flat slotRow (suc i) n)
       ∙ ap₂ (λ (x y : ℕ). x * size b + y) d r ∙ omega arith
 
--- ---- the tally of a page
+-- ---- the tally of a page, in the arm of a match that tells its kind
 
-kind-tally : (p : Pool) (g : ℕ) (k : Kind) → kindAt p g ≡ k → tallyOf (blocksAt g k (slotAt p g)) ≡ tallyOf (pageBlocks p g)
-kind-tally p g k e = ap tallyOf (kind-blocks p g k e)
-
-none-tally : (p : Pool) (g : ℕ) → pageBlocks p g ≡ [] → tally 0 0 ≡ tallyOf (pageBlocks p g)
-unfolding tallyOf given
-none-tally p g z = sym (ap tallyOf z)
-
-nothing : (p : Pool) (g : ℕ) (k : Kind) → kindAt p g ≡ k → blocksAt g k (slotAt p g) ≡ [] → tally 0 0 ≡ tallyOf (pageBlocks p g)
-nothing p g k e z = none-tally p g (sym (kind-blocks p g k e) ∙ z)
-
-module _ (c : ℕ) (p : Pool) (ok : admitOf c p ≡ 0) (g : ℕ) (l : g < 512 * c) where
-  whole : sound c p ≡ true
-  whole = admitted c p ok .whole
-
-  pub tally-edge : g % 512 ≡ 0 → tally 0 0 ≡ tallyOf (pageBlocks p g)
-  tally-edge e = nothing p g Edge (page-edge c p whole g l e) refl
-
-  pub tally-high : 0xC0000000 ≤ getD (p .words) g 0 → tally 0 0 ≡ tallyOf (pageBlocks p g)
-  tally-high h = none-tally p g (none-high p g h)
-
-  pub tally-low : getD (p .words) g 0 < 0x40000001 → tally 0 0 ≡ tallyOf (pageBlocks p g)
-  tally-low a = ⊎-elim (λ h. nothing p g Free h refl) (λ h. nothing p g (Inner 0) h refl) (page-low c p whole g l a)
-
-  pub tally-large : g % 512 ≢ 0 → 0x40000001 ≤ getD (p .words) g 0 → getD (p .words) g 0 < 0x80000000
-      → tally 1 (4096 * (getD (p .words) g 0 - 0x40000000)) ≡ tallyOf (pageBlocks p g)
+module _ (g : ℕ) (k : Kind) where
+  pub tally-none : (taken : ℕ → Bool) → Bare k → tally 0 0 ≡ tallyOf (blocksAt g k taken)
   unfolding tallyOf given
-  tally-large n a b =
-      let (m, h) = page-large c p whole g l n a b in
-      let r : 4096 * (getD (p .words) g 0 - 0x40000000) ≡ 4096 * suc (getD (p .words) g 0 - 0x40000001) + 0 = omega arith in
-      ap (tally 1) r ∙ kind-tally p g (Large (getD (p .words) g 0 - 0x40000001)) h
+  tally-none taken h = sym (ap tallyOf (bare-none g taken k h))
 
-  pub class-low : 0x80000000 ≤ getD (p .words) g 0 → getD (p .words) g 0 < 0xC0000000 → getD (p .words) g 0 < 0x8000001E
-  class-low a b = page-class c p whole g l a b .0
+  pub tally-large : (taken : ℕ → Bool) (n : ℕ) → k ≡ Large n → tally 1 (4096 * (n + 1)) ≡ tallyOf (blocksAt g k taken)
+  unfolding tallyOf given
+  tally-large taken n e =
+      let r : 4096 * (n + 1) ≡ 4096 * suc n + 0 = omega arith in
+      ap (tally 1) r ∙ sym (ap (λ (j : Kind). tallyOf (blocksAt g j taken)) e)
 
-  pub tally-class : 0x80000000 ≤ getD (p .words) g 0 → getD (p .words) g 0 < 0xC0000000 → (r : Row) (s n z : ℕ)
-      → r ≡ rowAt (getD (p .words) g 0 - 0x80000000) → s ≡ r .slots → n ≡ countBits (p .slots) (512 * g) s → z ≡ r .size
-      → tally n (n * z) ≡ tallyOf (pageBlocks p g)
-  unfolding tallyOf slotAt
-  tally-class a b r s n z e f h k =
-      let w : ℕ = getD (p .words) g 0 in
-      let count : n ≡ countBits (p .slots) (512 * g) (slots (getD (p .words) g 0 - 0x80000000)) =
-      h ∙ ap (countBits (p .slots) (512 * g)) (slots-read (getD (p .words) g 0 - 0x80000000) e f) in
-      let bytes : z ≡ size (getD (p .words) g 0 - 0x80000000) = size-read (getD (p .words) g 0 - 0x80000000) e k in
-      ap₂ tally (count ∙ sym (slots-length (p .slots) g (getD (p .words) g 0 - 0x80000000) 0 (slots (getD (p .words) g 0 - 0x80000000)) (512 * g) (omega arith)))
-      (ap₂ _*_ count bytes ∙ sym (slots-given (p .slots) g (getD (p .words) g 0 - 0x80000000) 0 (slots (getD (p .words) g 0 - 0x80000000)) (512 * g) (omega arith)))
-      ∙ kind-tally p g (Class (getD (p .words) g 0 - 0x80000000)) (page-class c p whole g l a b .1)
+  pub tally-class : (ss : List ℕ) (b : ℕ) {r : Row} {s n z : ℕ} → k ≡ Class b → r ≡ rowAt b → s ≡ r .slots → n ≡ countBits ss (512 * g) s → z ≡ r .size
+      → tally n (n * z) ≡ tallyOf (blocksAt g k (λ i. isSet ss (512 * g + i)))
+  unfolding tallyOf
+  tally-class ss b {n = n} {z = z} d e f h q =
+      let count : n ≡ countBits ss (512 * g) (slots b) = h ∙ ap (countBits ss (512 * g)) (slots-read b e f) in
+      let bytes : z ≡ size b = size-read b e q in
+      ap₂ tally (count ∙ sym (slots-length ss g b 0 (slots b) (512 * g) (omega arith)))
+      (ap₂ _*_ count bytes ∙ sym (slots-given ss g b 0 (slots b) (512 * g) (omega arith)))
+      ∙ sym (ap (λ (j : Kind). tallyOf (blocksAt g j (λ i. isSet ss (512 * g + i)))) d)
+
+-- the row that was read for a kind is that of its class
+pub row-as : {k : Kind} {r : Row} (b : ℕ) → k ≡ Class b → r ≡ rowAt (classIn k) → r ≡ rowAt b
+row-as b e f = f ∙ ap (λ (j : Kind). rowAt (classIn j)) e
 
 -- a run's slots are few, and so are their bytes
 pub slots-few : (b : ℕ) {r : Row} {s : ℕ} → r ≡ rowAt b → s ≡ r .slots → s ≤ 512
@@ -143,6 +125,45 @@ bytes-few b {r} ss i {s} {n} {z} e f h k =
     let t = a .fit in let u = a .pages-most in
     rw big (omega arith)
 
+-- a large run's pages are few
+pub large-few : {k : Kind} {n : ℕ} → k ≡ Large n → spanOf k < 512 → n < 511
+large-few {k} {n} e l = let s : spanOf k ≡ suc n = ap spanOf e in omega arith
+
+-- ---- what a page is, and the row of its class
+
+-- what a match tells where it has an arm for the first pages of class runs, and one for all other kinds
+pub others-zero : (k : Kind) → OneOf (0 ∷ 1 ∷ 2 ∷ 3 ∷ 5 ∷ []) (tagOf the-type k) → 0 ≡ classIn k
+others-zero Edge h = refl
+others-zero Free h = refl
+others-zero Damaged h = refl
+others-zero (Large k) h = refl
+others-zero (Class b) (inl e) = absurd (omega arith)
+others-zero (Class b) (inr (inl e)) = absurd (omega arith)
+others-zero (Class b) (inr (inr (inl e))) = absurd (omega arith)
+others-zero (Class b) (inr (inr (inr (inl e)))) = absurd (omega arith)
+others-zero (Class b) (inr (inr (inr (inr e)))) = absurd (omega arith)
+others-zero (Inner w) h = refl
+
+module _ (p : Pool) (g : ℕ) where
+  pub told-few : (k : Kind) → k ≡ kindAt p g → (classIn k < 30) × (spanOf k < 512)
+  unfolding behind
+  told-few Edge e = (omega arith, omega arith)
+  told-few Free e = (omega arith, omega arith)
+  told-few Damaged e = (omega arith, omega arith)
+  told-few (Large k) e = let l = large-at-low p g k (sym e) in (omega arith, omega arith)
+  told-few (Class b) e = let h = any-row b .pages-most in (class-at-low p g b (sym e), omega arith)
+  told-few (Inner w) e = (omega arith, omega arith)
+
+  tally-page : {k : Kind} {t : Tally} → k ≡ kindAt p g → t ≡ tallyOf (blocksAt g k (λ s. isSet (p .slots) (512 * g + s)))
+      → t ≡ tallyOf (pageBlocks p g)
+  unfolding slotAt
+  tally-page {k} e f = f ∙ ap tallyOf (kind-blocks p g k (sym e))
+
+-- the row of class b, as it was read
+pub row-read : (d : Row) (t : List Row) (b i : ℕ) → t ≡ rows → d ≡ rowOf 0 0 0 → i ≡ b → getD t i d ≡ rowAt b
+unfolding rowAt
+row-read d t b i e z h = cc
+
 -- ---- the pages one after the other
 
 -- so far n blocks of b bytes were found, and those from page g on make all
@@ -155,10 +176,12 @@ counted-start c p =
     let e = sym (from-start c p) in
     record { number = zero-add (length (liveFrom c p 0)) ∙ ap length e; sum = zero-add (given (liveFrom c p 0)) ∙ ap given e }
 
-module _ {c : ℕ} {p : Pool} {g n b : ℕ} (h : Counted c p g n b) (l : g < 512 * c) {t : Tally} (e : t ≡ tallyOf (pageBlocks p g)) where
+module _ {c : ℕ} {p : Pool} {g n b : ℕ} (h : Counted c p g n b) (l : g < 512 * c) {k : Kind} (is : k ≡ kindAt p g) {t : Tally}
+    (made : t ≡ tallyOf (blocksAt g k (λ s. isSet (p .slots) (512 * g + s)))) where
   pub counted-on : Counted c p (g + 1) (n + t .blocks) (b + t .bytes)
   unfolding tallyOf
   counted-on =
+      let e : t ≡ tallyOf (pageBlocks p g) = tally-page p g is made in
       let x : t .blocks ≡ length (pageBlocks p g) = ap (λ (y : Tally). y .blocks) e in
       let z : t .bytes ≡ given (pageBlocks p g) = ap (λ (y : Tally). y .bytes) e in
       let u = ap length (from-step c p g l) ∙ length-append (pageBlocks p g) (liveFrom c p (g + 1)) in
@@ -193,10 +216,3 @@ bounded c p ok = let (x, y) = rising-given (live-rising c p (admit-good c p ok))
 pub count-as : {t : Tally} (l : List Block) → t ≡ tallyOf l → t .blocks ≡ length l
 unfolding tallyOf
 count-as l e = ap (λ (y : Tally). y .blocks) e
-
--- the row of the class that a word names, as it was read
-pub row-read : (d : Row) (t : List Row) (w b : ℕ) → t ≡ rows → d ≡ rowOf 0 0 0 → (b < 30) × (0x80000000 ≤ w → w < 0x8000001E → b ≡ w - 0x80000000)
-    → 0x80000000 ≤ w → w < 0x8000001E → getD t b d ≡ rowAt (w - 0x80000000)
-unfolding rowAt
-row-read d t w b e z h x y =
-    ap₂ (λ (l : List Row) (r : Row). getD l b r) e z ∙ ap (λ (i : ℕ). getD rows i (rowOf 0 0 0)) (h .1 x y)

@@ -1,12 +1,14 @@
 // Totals: live blocks, bytes given and free pages, in one pass over the page words.
 ghost use mathlib.Core.Path.{_≡_};
-ghost use Prim.Native.Nat.{_-_, _*_, _<_, _≤_};
-ghost use lib.ListN.{length, getD};
+ghost use Prim.Native.Nat.{_+_, _*_, _<_, _≤_};
+ghost use lib.ListN.{length};
+ghost use Rattle.bitrow.specs.Row.{isSet};
 ghost use Rattle.classes.specs.Classes.{rowAt};
 ghost use Rattle.records.specs.Pool.{pool};
+ghost use Rattle.records.specs.Runs.{spanOf};
 ghost use Rattle.records.specs.Calls.{admitOf};
-ghost use Rattle.blocks.specs.Blocks.{pageBlocks, live};
-ghost use Rattle.totals.specs.Totals.{tallyOf, tallied, totalsOf};
+ghost use Rattle.blocks.specs.Blocks.{blocksAt, live};
+ghost use Rattle.totals.specs.Totals.{classIn, tallyOf, tallied, totalsOf};
 ghost use Rattle.totals.specs.Means.{TotalsMean};
 
 // Some live blocks: how many, and the sum of the sizes given.
@@ -24,61 +26,45 @@ pub struct Sums {
     pub free: u64,
 }
 
-// The class that a run's word names; class 0 where the word is that of no class run.
-fn class_at(w: u32) -> usize
-    ensures { λ r. ⌜ (r < 30) × (0x80000000 ≤ w → w < 0x8000001E → r ≡ w - 0x80000000) ⌝ }
+// The class whose row a page's blocks are counted by; class 0 where no class run starts at the page.
+fn class_in(k: records::Kind) -> usize
+    ensures { λ r. ⌜ r ≡ classIn k ⌝ }
 {
-    if w < 0x80000000 {
-        return 0;
+    match k {
+        records::Kind::Class(b) => {
+            return b;
+        }
+        _ => {
+            return 0;
+        }
     }
-    if 0x8000001E <= w {
-        return 0;
-    }
-    (w - 0x80000000) as usize
 }
 
-// The live blocks that begin in the run that starts at page g; row is that of its class, where it is a class run. Page 0 of a chunk has the
-// word of a large run and begins none.
-fn page_tally(
-    c: u64,
-    bits: &[u64],
-    words: &[u32],
-    slots: &[u64],
-    g: usize,
-    row: classes::Row,
-) -> Tally
-    requires { ⌜ (admitOf c (pool (now bits) (now words) (now slots)) ≡ 0) × (g < 512 * c) × (0x80000000 ≤ getD (now words) g 0 → getD (now words) g 0 < 0x8000001E → row ≡ rowAt (getD (now words) g 0 - 0x80000000)) ⌝ }
-    ensures { λ r. ⌜ r ≡ tallyOf (pageBlocks (pool (now (bits .entry)) (now (words .entry)) (now (slots .entry))) g) ⌝ }
+// The live blocks that begin in the run that starts at page g, which is of kind k; row is that of its class, where it is a class run.
+fn page_tally(slots: &[u64], g: usize, k: records::Kind, row: classes::Row) -> Tally
+    requires { ⌜ (512 * g + 512 ≤ 64 * length (now slots)) × (g < 8192) × (spanOf k < 512) × (row ≡ rowAt (classIn k)) ⌝ }
+    ensures { λ r. ⌜ r ≡ tallyOf (blocksAt g k (λ s. isSet (now (slots .entry)) (512 * g + s))) ⌝ }
 {
-    if g % 512 == 0 {
-        return Tally {
-            blocks: 0,
-            bytes: 0,
-        };
-    }
-    let w = words[g];
-    if 0xC0000000 <= w {
-        return Tally {
-            blocks: 0,
-            bytes: 0,
-        };
-    }
-    if 0x80000000 <= w {
-        let n = bitrow::count_bits(slots, 512 * g, widths::wide16(row.slots));
-        return Tally {
-            blocks: n,
-            bytes: n * widths::wide16(row.size),
-        };
-    }
-    if w < 0x40000001 {
-        return Tally {
-            blocks: 0,
-            bytes: 0,
-        };
-    }
-    Tally {
-        blocks: 1,
-        bytes: 4096 * ((w - 0x40000000) as usize),
+    match k {
+        records::Kind::Class(_) => {
+            let n = bitrow::count_bits(slots, 512 * g, widths::wide16(row.slots));
+            return Tally {
+                blocks: n,
+                bytes: n * widths::wide16(row.size),
+            };
+        }
+        records::Kind::Large(n) => {
+            return Tally {
+                blocks: 1,
+                bytes: 4096 * (n + 1),
+            };
+        }
+        _ => {
+            return Tally {
+                blocks: 0,
+                bytes: 0,
+            };
+        }
     }
 }
 
@@ -93,8 +79,9 @@ fn tally_live(c: u64, bits: &[u64], words: &[u32], slots: &[u64]) -> Tally
     let mut bytes = 0;
     let mut g = 0;
     while g < n {
-        let row = table[class_at(words[g])];
-        let t = page_tally(c, bits, words, slots, g, row);
+        let k = records::kind_at(c, bits, words, slots, g);
+        let row = table[class_in(k)];
+        let t = page_tally(slots, g, k, row);
         blocks = blocks + t.blocks;
         bytes = bytes + t.bytes;
         g += 1;

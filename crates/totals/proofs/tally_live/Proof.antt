@@ -5,7 +5,7 @@ use Prim.Native.Nat.{_-_, _*_, _≤_}
 use native.Mathlib.Omega.{arith}
 use Rattle.records.specs.Pool.{pool}
 use Rattle.records.proofs.AdmitLaws.{admitted}
-use Rattle.totals.proofs.TallyLaws.{row-read, Counted, counted-start, counted-on, counted-done, bounded}
+use Rattle.totals.proofs.TallyLaws.{told-few, row-read, Counted, counted-start, counted-on, counted-done, bounded}
 use Rattle.totals.proofs.tally_live.Statement.{statement}
 use Rattle.totals.proofs.tally_live.Tie as tie
 
@@ -24,29 +24,26 @@ mul-n c = let s = admitted _ _ (c .before .before .before .before .pre) .shape i
 loop-holds : tie.Need-loop-holds Inv-loop μ-loop
 loop-holds c = (omega arith, refl, counted-start _ _)
 
-mul-class-at : tie.Need-mul-class-at Inv-loop μ-loop
-mul-class-at c = let s = admitted _ _ (c .before .before .before .before .before .before .pre) .shape in record { fits = omega arith }
+kind-at-requires : tie.Need-kind-at-requires Inv-loop μ-loop
+kind-at-requires c κs = (c .before .before .before .before .before .before .pre, omega arith)
 
-shared-slice-read-class-at : tie.Need-shared-slice-read-class-at Inv-loop μ-loop
-shared-slice-read-class-at c = let s = admitted _ _ (c .before .before .before .before .before .before .before .pre) .shape in omega arith
-
-class-at-requires : tie.Need-class-at-requires Inv-loop μ-loop
-class-at-requires c κs = search needs
+class-in-requires : tie.Need-class-in-requires Inv-loop μ-loop
+class-in-requires c κs = search needs
 
 mul-row : tie.Need-mul-row Inv-loop μ-loop
-mul-row c = search needs
+mul-row c = let f = told-few _ _ _ (c .before .kind-at .ensures) in record { fits = omega arith }
 
 array-copy-out-row : tie.Need-array-copy-out-row Inv-loop μ-loop
-array-copy-out-row c = search needs
+array-copy-out-row c = let f = told-few _ _ _ (c .before .kind-at .ensures) in omega arith
 
 page-tally-requires : tie.Need-page-tally-requires Inv-loop μ-loop
-page-tally-requires c κs = (c .before .before .before .before .before .before .before .before .before .pre, omega arith, row-read _ _ _ _ (c .before .before .before .before .before .class-rows .ensures) refl (c .before .class-at .ensures))
+page-tally-requires c κs = let s = admitted _ _ (c .before .before .before .before .before .before .before .before .before .pre) .shape in (omega arith, omega arith, told-few _ _ _ (c .before .before .kind-at .ensures) .1, row-read _ _ _ _ (c .before .before .before .before .before .class-rows .ensures) refl (c .before .class-in .ensures))
 
 add-blocks : tie.Need-add-blocks Inv-loop μ-loop
-add-blocks c = let b = bounded _ _ (c .before .before .before .before .before .before .before .before .before .before .before .pre) in let s = admitted _ _ (c .before .before .before .before .before .before .before .before .before .before .before .pre) .shape in let o = counted-on (c .before .before .before .before .before .before .loop .inv .2) (omega arith) (c .before .page-tally .ensures) in let a = o .number in record { fits = omega arith }
+add-blocks c = let b = bounded _ _ (c .before .before .before .before .before .before .before .before .before .before .before .pre) in let s = admitted _ _ (c .before .before .before .before .before .before .before .before .before .before .before .pre) .shape in let o = counted-on (c .before .before .before .before .before .before .loop .inv .2) (omega arith) (c .before .before .before .before .kind-at .ensures) (c .before .page-tally .ensures) in let a = o .number in record { fits = omega arith }
 
 add-bytes : tie.Need-add-bytes Inv-loop μ-loop
-add-bytes c = let b = bounded _ _ (c .before .before .before .before .before .before .before .before .before .before .before .before .pre) in let s = admitted _ _ (c .before .before .before .before .before .before .before .before .before .before .before .before .pre) .shape in let o = counted-on (c .before .before .before .before .before .before .before .loop .inv .2) (omega arith) (c .before .before .page-tally .ensures) in let a = o .sum in record { fits = omega arith }
+add-bytes c = let b = bounded _ _ (c .before .before .before .before .before .before .before .before .before .before .before .before .pre) in let s = admitted _ _ (c .before .before .before .before .before .before .before .before .before .before .before .before .pre) .shape in let o = counted-on (c .before .before .before .before .before .before .before .loop .inv .2) (omega arith) (c .before .before .before .before .before .kind-at .ensures) (c .before .before .page-tally .ensures) in let a = o .sum in record { fits = omega arith }
 
 add-g : tie.Need-add-g Inv-loop μ-loop
 add-g c = let s = admitted _ _ (c .before .before .before .before .before .before .before .before .before .before .before .before .pre) .shape in record { fits = omega arith }
@@ -55,7 +52,7 @@ loop-less : tie.Need-loop-less Inv-loop μ-loop
 loop-less c = search needs
 
 loop-again : tie.Need-loop-again Inv-loop μ-loop
-loop-again c = (omega arith, c .before .before .before .before .before .before .before .loop .inv .1, counted-on (c .before .before .before .before .before .before .before .loop .inv .2) (omega arith) (c .before .before .page-tally .ensures))
+loop-again c = (omega arith, c .before .before .before .before .before .before .before .loop .inv .1, counted-on (c .before .before .before .before .before .before .before .loop .inv .2) (omega arith) (c .before .before .before .before .before .kind-at .ensures) (c .before .before .page-tally .ensures))
 
 returns : tie.Need-returns Inv-loop μ-loop
 returns c = counted-done (c .before .loop .inv .2) (omega arith)
@@ -69,9 +66,8 @@ tally-live-spec =
     class-rows-requires
     mul-n
     loop-holds
-    mul-class-at
-    shared-slice-read-class-at
-    class-at-requires
+    kind-at-requires
+    class-in-requires
     mul-row
     array-copy-out-row
     page-tally-requires
