@@ -59,28 +59,28 @@ pub fn inner_word(b: usize, k: usize) -> u32
 // ---- what they mean
 
 // What page g is, on records that are sound: there a word means one thing only, and the page bit tells a free page from one inside a large
-// run.
+// run. The words at which nothing begins come first: where a caller takes them alike, that is one comparison.
 pub fn kind_at(c: u64, bits: &[u64], words: &[u32], slots: &[u64], g: usize) -> Kind
     requires { ⌜ (admitOf c (pool (now bits) (now words) (now slots)) ≡ 0) × (g < 512 * c) ⌝ }
     ensures { λ r. ⌜ r ≡ kindAt (pool (now (bits .entry)) (now (words .entry)) (now (slots .entry))) g ⌝ }
 {
-    if g % 512 == 0 {
-        return Kind::Edge;
-    }
     let w = words[g];
     if 0xC0000000 <= w {
         return Kind::Inner(w);
     }
+    if w < 0x40000001 {
+        if bitrow::is_set(bits, g) {
+            return Kind::Inner(0);
+        }
+        return Kind::Free;
+    }
     if 0x80000000 <= w {
         return Kind::Class((w - 0x80000000) as usize);
     }
-    if 0x40000001 <= w {
-        return Kind::Large((w - 0x40000001) as usize);
+    if g % 512 == 0 {
+        return Kind::Edge;
     }
-    if bitrow::is_set(bits, g) {
-        return Kind::Inner(0);
-    }
-    Kind::Free
+    Kind::Large((w - 0x40000001) as usize)
 }
 
 // Whether a run of class b starts at page g, on records that are sound: one comparison, for searches that go over all pages.
