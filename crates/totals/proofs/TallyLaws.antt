@@ -31,7 +31,8 @@ use Rattle.blocks.proofs.PageLaws.{kind-blocks, bare-none, liveFrom, from-start
 use Rattle.blocks.proofs.KeepLaws.{admit-good}
 use Rattle.blocks.proofs.ApartLaws.{live-rising}
 use Rattle.totals.specs.declared.Tally.{Tally}
-use Rattle.totals.specs.Totals.{classIn, given, tallyOf}
+use Rattle.totals.specs.Totals.{given, tallyOf}
+use Rattle.totals.specs.Rows.{classIn}
 
 abbrev pub tally : ℕ → ℕ → Tally
 tally n b = record { blocks = n; bytes = b }

@@ -20,15 +20,6 @@ given (b ∷ l) = b .size + given l
 unfoldable pub tallyOf : List Block → Tally
 tallyOf l = record { blocks = length l; bytes = given l }
 
--- the class of the run that starts at a page of a kind; 0 where no class run does
-abbrev pub classIn : Kind → ℕ
-classIn Edge = 0
-classIn Free = 0
-classIn Damaged = 0
-classIn (Large k) = 0
-classIn (Class b) = b
-classIn (Inner w) = 0
-
 -- the sum of what f gives at n numbers from i on
 unfoldable pub sum : (ℕ → ℕ) → ℕ → ℕ → ℕ
 sum f i zero = 0

@@ -8,7 +8,8 @@ ghost use Rattle.records.specs.Pool.{pool};
 ghost use Rattle.records.specs.Runs.{spanOf};
 ghost use Rattle.records.specs.Calls.{admitOf};
 ghost use Rattle.blocks.specs.Blocks.{blocksAt, live};
-ghost use Rattle.totals.specs.Totals.{classIn, tallyOf, tallied, totalsOf};
+ghost use Rattle.totals.specs.Totals.{tallyOf, tallied, totalsOf};
+ghost use Rattle.totals.specs.Rows.{classIn};
 ghost use Rattle.totals.specs.Means.{TotalsMean};
 
 // Some live blocks: how many, and the sum of the sizes given.
