@@ -1,6 +1,6 @@
 -- What the word and the bit of a page of sound records tell. Assumes nothing.
 use mathlib.Core.Path.{_≡_, refl, sym, ap, _∙_, subst}
-use mathlib.Core.Logic.{_≢_, _⊎_, inl, inr, by-cases}
+use mathlib.Core.Logic.{_≢_, by-cases}
 use mathlib.Core.Bool.{Bool, true, false, false≢true}
 use Prim.Native.Nat.{ℕ, suc, _+_, _-_, _*_, _%_, _≤_, _<_}
 use native.Mathlib.Decide.{ℕ-discrete, decLt}
@@ -72,12 +72,12 @@ module _ (v t : Bool) (w : ℕ) (n : kindOf v t w ≢ Damaged) where
       go true k = absurd (m (edge-only t w k .0))
       go false k = taken-word t w k z
 
-  pub is-class-word : 0x80000000 ≤ w → w < 0xC0000000 → (w < 0x8000001E) × (kindOf v t w ≡ Class (w - 0x80000000))
+  is-class-word : 0x80000000 ≤ w → w < 0xC0000000 → (w < 0x8000001E) × (kindOf v t w ≡ Class (w - 0x80000000))
   is-class-word a b =
       let e = plain (omega arith) (omega arith) in
       by-cases (decLt w 0x8000001E) (λ l. (l, e ∙ kind-class w a l)) (λ l. absurd (n (e ∙ kind-no-class w (omega arith) b)))
 
-  pub is-large-word : v ≡ false → 0x40000001 ≤ w → w < 0x80000000 → (w < 0x40000200) × (kindOf v t w ≡ Large (w - 0x40000001))
+  is-large-word : v ≡ false → 0x40000001 ≤ w → w < 0x80000000 → (w < 0x40000200) × (kindOf v t w ≡ Large (w - 0x40000001))
   is-large-word f a b =
       let e : kindOf v t w ≡ kindOf false true w = go v f n in
       by-cases (decLt w 0x40000200) (λ l. (l, e ∙ kind-large w a l)) (λ l. absurd (n (e ∙ kind-no-large w (omega arith) b)))
@@ -86,15 +86,7 @@ module _ (v t : Bool) (w : ℕ) (n : kindOf v t w ≢ Damaged) where
       go true x k = absurd (false≢true (sym x))
       go false x k = taken-word t w k (omega arith)
 
-  pub is-low-word : w < 0x40000001 → (kindOf v t w ≡ Free) ⊎ (kindOf v t w ≡ Inner 0)
-  is-low-word a = go v t n
-    where
-      go : (u s : Bool) → kindOf u s w ≢ Damaged → (kindOf u s w ≡ Free) ⊎ (kindOf u s w ≡ Inner 0)
-      go true s k = let e = edge-only s w k .0 in absurd (omega arith)
-      go false false k = by-cases (ℕ-discrete w 0) (λ e. inl (cond-eq w 0 Free Damaged e)) (λ e. absurd (k (cond-ne w 0 Free Damaged e)))
-      go false true k = by-cases (ℕ-discrete w 0) (λ e. inr (kind-zero w e ∙ ap Inner e)) (λ e. absurd (k (kind-no-low w e a)))
-
-  pub is-inside-word : t ≡ true → w < 0x40000001 → kindOf v t w ≡ Inner 0
+  is-inside-word : t ≡ true → w < 0x40000001 → kindOf v t w ≡ Inner 0
   is-inside-word f a = go v t f n
     where
       go : (u s : Bool) → s ≡ true → kindOf u s w ≢ Damaged → kindOf u s w ≡ Inner 0
@@ -102,14 +94,14 @@ module _ (v t : Bool) (w : ℕ) (n : kindOf v t w ≢ Damaged) where
       go false false x k = absurd (false≢true x)
       go false true x k = by-cases (ℕ-discrete w 0) (λ e. kind-zero w e ∙ ap Inner e) (λ e. absurd (k (kind-no-low w e a)))
 
-  pub is-edge : v ≡ true → kindOf v t w ≡ Edge
+  is-edge : v ≡ true → kindOf v t w ≡ Edge
   is-edge f = go v t f n
     where
       go : (u s : Bool) → u ≡ true → kindOf u s w ≢ Damaged → kindOf u s w ≡ Edge
       go true s x k = let (e, f) = edge-only s w k in ap (λ (q : Bool). kindOf true q w) f ∙ cond-eq w 0x40000001 Edge Damaged e
       go false s x k = absurd (false≢true x)
 
-  pub is-free : t ≡ false → kindOf v t w ≡ Free
+  is-free : t ≡ false → kindOf v t w ≡ Free
   is-free f = go v t f n
     where
       go : (u s : Bool) → s ≡ false → kindOf u s w ≢ Damaged → kindOf u s w ≡ Free
@@ -136,10 +128,6 @@ module _ (c : ℕ) (p : Pool) (s : sound c p ≡ true) (g : ℕ) (l : g < 512 * 
       → (getD (p .words) g 0 < 0x40000200) × (kindAt p g ≡ Large (getD (p .words) g 0 - 0x40000001))
   unfolding kindAt isEdge
   page-large n a b = is-large-word (isEdge g) (isSet (p .bits) g) (getD (p .words) g 0) right (ne-eqb (g % 512) 0 n) a b
-
-  pub page-low : getD (p .words) g 0 < 0x40000001 → (kindAt p g ≡ Free) ⊎ (kindAt p g ≡ Inner 0)
-  unfolding kindAt
-  page-low a = is-low-word (isEdge g) (isSet (p .bits) g) (getD (p .words) g 0) right a
 
   pub page-inside : isSet (p .bits) g ≡ true → getD (p .words) g 0 < 0x40000001 → kindAt p g ≡ Inner 0
   unfolding kindAt

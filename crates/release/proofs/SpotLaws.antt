@@ -112,9 +112,12 @@ module _ (c : ℕ) (p : Pool) (ok : admitOf c p ≡ 0) (q : ℕ) (l : q / 4096 <
     pub lies-class : (b : ℕ) → Lies p (q / 4096) f (Class b)
         → (f < 512 * c) × (b < 30) × (4096 * f ≤ q) × (slotSpot (p .slots) f b (q - 4096 * f) ≡ spot c p q)
     lies-class b r =
-        let i = r .by in let a = i .low in
-        (omega arith, class-at-low p f b (sym (r .is)), omega arith,
-        spot-in f (Class b) (in-run c p whole f (q / 4096) (omega arith) i) (sym (r .is)))
+        let i = r .by in let a = i .low in (
+          omega arith,
+          class-at-low p f b (sym (r .is)),
+          omega arith,
+          spot-in f (Class b) (in-run c p whole f (q / 4096) (omega arith) i) (sym (r .is)),
+        )
 
     pub lies-first : (k : ℕ) → Lies p (q / 4096) f (Large k) → q % 4096 ≡ 0 → (n : ℕ) → n ≡ suc k → Run f n ≡ spot c p q
     lies-first k r z n e =

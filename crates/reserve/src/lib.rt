@@ -52,7 +52,15 @@ pub fn free_slot(slots: &[u64], g: usize, b: usize, n: usize) -> usize
 }
 
 // Whether a run of class b with a free slot starts at page g; such runs have n slots.
-fn has_slot(c: u64, bits: &[u64], words: &[u32], slots: &[u64], g: usize, b: usize, n: usize) -> bool
+fn has_slot(
+    c: u64,
+    bits: &[u64],
+    words: &[u32],
+    slots: &[u64],
+    g: usize,
+    b: usize,
+    n: usize,
+) -> bool
     requires { ⌜ (admitOf c (pool (now bits) (now words) (now slots)) ≡ 0) × (g < 512 * c) × (b < 30) × (n ≡ slotsOf (Class b)) ⌝ }
     ensures { λ r. ⌜ r ≡ hasSlot (pool (now (bits .entry)) (now (words .entry)) (now (slots .entry))) b g ⌝ }
 {
