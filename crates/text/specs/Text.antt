@@ -2,8 +2,9 @@
 use Prim.Native.Nat.{ℕ, zero, suc, _+_, _/_, _%_}
 use mathlib.Core.Path.{_≡_}
 use mathlib.Core.List.{List, [], _∷_, _++_}
-use mathlib.Core.Bool.{cond}
-use lib.Dec.{ltb}
+use mathlib.Core.Bool.{Bool, cond, _||_}
+use Prim.Native.Char.{code}
+use lib.Dec.{eqb, ltb}
 use lib.ListN.{length}
 use lib.Seq.{sets}
 
@@ -27,3 +28,33 @@ oneOf a m z = a ++ (decimal m ++ z)
 
 unfoldable pub twoOf : List ℕ → ℕ → List ℕ → ℕ → List ℕ → List ℕ
 twoOf a m b n z = a ++ (decimal m ++ oneOf b n z)
+
+-- ---- templates: texts with places for numbers
+
+-- what the byte b of a template stands for, where ns are the numbers that are left: $ for the first of them in decimal, ~ for the byte
+-- of that number, any other byte for itself
+unfoldable pub piece : ℕ → List ℕ → List ℕ
+piece b [] = b ∷ []
+piece b (n ∷ ns) = cond (eqb b (code "$")) (decimal n) (cond (eqb b (code "~")) (n % 256 ∷ []) (b ∷ []))
+
+-- the numbers that are left behind it
+unfoldable pub rest : ℕ → List ℕ → List ℕ
+rest b [] = []
+rest b (n ∷ ns) = cond (eqb b (code "$") || eqb b (code "~")) ns (n ∷ ns)
+
+-- the template t with the numbers ns in their places
+unfoldable pub filled : List ℕ → List ℕ → List ℕ
+filled [] ns = []
+filled (b ∷ t) ns = piece b ns ++ filled t (rest b ns)
+
+-- room that is enough for what b stands for, and for the whole, whatever the numbers
+abbrev pub pieceRoom : ℕ → ℕ
+pieceRoom b = 1 + cond (eqb b (code "$")) 19 0
+
+abbrev pub room : List ℕ → ℕ
+room [] = 0
+room (b ∷ t) = pieceRoom b + room t
+
+-- a text that stands only where the test holds
+unfoldable pub only : Bool → List ℕ → List ℕ
+only v t = cond v t []

@@ -2,8 +2,8 @@
 // behind what it wrote.
 ghost use mathlib.Core.Path.{_≡_};
 ghost use Prim.Native.Nat.{_+_, _≤_, _<_};
-ghost use lib.ListN.{length};
-ghost use Rattle.text.specs.Text.{decimal, Appends, oneOf, twoOf};
+ghost use lib.ListN.{length, drop};
+ghost use Rattle.text.specs.Text.{decimal, Appends, oneOf, twoOf, piece, rest, filled, pieceRoom, room, only};
 
 // All of a text.
 pub fn put_text(out: &mut [u8], at: usize, text: &[u8]) -> usize
@@ -69,4 +69,76 @@ pub fn put_two(out: &mut [u8], at: usize, a: &[u8], m: u64, b: &[u8], n: u64, z:
     let i = put_text(out, at, a);
     let j = put_decimal(out, i, m);
     put_one(out, j, b, n, z)
+}
+
+// Where the next byte of a template goes, and which of its numbers is next.
+struct Place {
+    at: usize,
+    next: usize,
+}
+
+// What one byte of a template stands for.
+fn put_piece(out: &mut [u8], p: Place, b: u8, ns: &[u64]) -> Place
+    requires { ⌜ p .at + pieceRoom b ≤ length (now out) ⌝ }
+    ensures { λ r. ⌜ (Appends (now (out .entry)) (now (out .exit)) (p .at) (r .at) (piece b (drop (p .next) (now (ns .entry)))))
+        × (drop (r .next) (now (ns .entry)) ≡ rest b (drop (p .next) (now (ns .entry)))) × (r .at ≤ p .at + pieceRoom b) ⌝ }
+{
+    let at = p.at;
+    let k = p.next;
+    if ns.len() <= k {
+        out[at] = b;
+        return Place {
+            at: at + 1,
+            next: k,
+        };
+    }
+    let n = ns[k];
+    if b == b'$' {
+        return Place {
+            at: put_decimal(out, at, n),
+            next: k + 1,
+        };
+    }
+    if b == b'~' {
+        out[at] = (n % 256) as u8;
+        return Place {
+            at: at + 1,
+            next: k + 1,
+        };
+    }
+    out[at] = b;
+    Place {
+        at: at + 1,
+        next: k,
+    }
+}
+
+// A template with numbers in its places.
+pub fn put_filled(out: &mut [u8], at: usize, t: &[u8], ns: &[u64]) -> usize
+    requires { ⌜ at + room (now t) ≤ length (now out) ⌝ }
+    ensures { λ r. ⌜ Appends (now (out .entry)) (now (out .exit)) at r (filled (now (t .entry)) (now (ns .entry))) ⌝ }
+    ensures { λ r. ⌜ r ≤ at + room (now (t .entry)) ⌝ }
+{
+    let mut p = Place {
+        at: at,
+        next: 0,
+    };
+    let mut i = 0;
+    while i < t.len() {
+        p = put_piece(out, p, t[i], ns);
+        i += 1;
+    }
+    p.at
+}
+
+// The same, only where the test holds.
+pub fn put_only(v: bool, out: &mut [u8], at: usize, t: &[u8], ns: &[u64]) -> usize
+    requires { ⌜ at + room (now t) ≤ length (now out) ⌝ }
+    ensures { λ r. ⌜ Appends (now (out .entry)) (now (out .exit)) at r (only v (filled (now (t .entry)) (now (ns .entry)))) ⌝ }
+    ensures { λ r. ⌜ r ≤ at + room (now (t .entry)) ⌝ }
+{
+    if v {
+        return put_filled(out, at, t, ns);
+    }
+    at
 }
