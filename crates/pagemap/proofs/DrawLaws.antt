@@ -18,20 +18,9 @@ use Rattle.records.proofs.AdmitLaws.{refused, served}
 use Rattle.records.specs.Pool.{Pool}
 use Rattle.cells.specs.declared.Cell.{Cell}
 use Rattle.cells.specs.Cells.{noCell, cellAt}
-use Rattle.pagemap.specs.Drawing.{only, textPage, textFoot, svgHead, svgPage, svgFoot, headOf, pageOf, footOf, pagesFrom}
+use Rattle.pagemap.specs.Drawing.{textPage, svgPage, headOf, pageOf, footOf, pagesFrom}
 use Rattle.pagemap.specs.Drawing.{headRoom, pageRoom, footRoom, roomFor, drawing, Shown, drawnAs, shown, showing, drawnOf}
 use Rattle.cells.proofs.CellLaws.{Shows}
-
--- ---- texts by a test
-
-module _ (v : Bool) (t : List ℕ) {a : List ℕ} {i : ℕ} where
-  pub only-here : v ≡ true → {b : List ℕ} {j : ℕ} → Appends a b i j t → Appends a b i j (only v t)
-  unfolding only
-  only-here e w = rw e w
-
-  pub only-else : v ≡ false → Appends a a i i (only v t)
-  unfolding only
-  only-else e = rw e appends-none
 
 -- ---- a page, as SVG or as text
 
@@ -41,22 +30,6 @@ module _ {v : Bool} (g : ℕ) (s : Cell) {a b : List ℕ} {i j : ℕ} where
 
   pub page-text : v ≡ false → Appends a b i j (textPage g s) → j ≤ i + 29 → (Appends a b i j (pageOf v g s)) × (j ≤ i + pageRoom v)
   page-text e w h = rw e (w, h)
-
-module _ {v : Bool} (c : ℕ) {a b : List ℕ} {i j : ℕ} where
-  pub foot-svg : v ≡ true → (t : Sums) → Appends a b i j (svgFoot c t) → j ≤ i + 1024
-      → (Appends a b i j (footOf v c t)) × (j ≤ i + footRoom v)
-  foot-svg e t w h = rw e (w, h)
-
-  pub foot-text : v ≡ false → (t : Sums) → Appends a b i j (textFoot t) → j ≤ i + 256
-      → (Appends a b i j (footOf v c t)) × (j ≤ i + footRoom v)
-  foot-text e t w h = rw e (w, h)
-
-pub head-svg : {v : Bool} (c : ℕ) {a b : List ℕ} {i : ℕ} → v ≡ true → Appends a b 0 i (svgHead c) → i ≤ 1024
-    → (Appends a b 0 i (headOf v c)) × (i ≤ headRoom v)
-head-svg c e w h = rw e (w, h)
-
-pub head-text : {v : Bool} (c : ℕ) {a : List ℕ} → v ≡ false → (Appends a a 0 0 (headOf v c)) × (0 ≤ headRoom v)
-head-text c e = rw e (appends-none, omega arith)
 
 -- ---- the pages one after the other
 

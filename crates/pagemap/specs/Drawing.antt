@@ -11,52 +11,29 @@ use Rattle.records.specs.Calls.{admitOf, unless}
 use Rattle.totals.specs.declared.Sums.{Sums}
 use Rattle.totals.specs.Totals.{tallied}
 use Rattle.text.specs.Ascii.{ascii}
-use Rattle.text.specs.Text.{oneOf, twoOf}
+use Rattle.text.specs.Text.{filled, only}
 use Rattle.cells.specs.declared.Cell.{Cell}
 use Rattle.cells.specs.Cells.{noCell, cellAt}
 use Rattle.pagemap.specs.declared.Drawn.{Drawn}
 
--- a text that stands only where the test holds
-unfoldable pub only : Bool → List ℕ → List ℕ
-only v t = cond v t []
-
 -- ---- as text: for each chunk a line and 8 rows of 64 characters, one a page; then what they say, and the totals
 
-unfoldable pub chunkLine : ℕ → List ℕ
-chunkLine g = only (eqb (g % 512) 0) (oneOf (ascii "chunk ") (g / 512) (ascii "\n"))
-
-unfoldable pub rowEnd : ℕ → List ℕ
-rowEnd g = only (eqb (g % 64) 63) (ascii "\n")
-
 unfoldable pub textPage : ℕ → Cell → List ℕ
-textPage g s = chunkLine g ++ (s .mark ∷ rowEnd g)
+textPage g s =
+    only (eqb (g % 512) 0) (filled (ascii "chunk $\n") (g / 512 ∷ []))
+    ++ (filled (ascii "~") (s .mark ∷ []) ++ only (eqb (g % 64) 63) (ascii "\n"))
 
-unfoldable pub totalsLine : Sums → List ℕ
-totalsLine t =
-    twoOf (ascii "live ") (t .blocks) (ascii " bytes ") (t .bytes) (ascii "") ++ oneOf (ascii " free pages ") (t .free) (ascii "\n")
-
-unfoldable pub textFoot : Sums → List ℕ
-textFoot t =
-    ascii "@ page 0  . free  L large run  = run goes on\n0-9 class run, tenths of its slots taken  X all of them\n" ++ totalsLine t
+abbrev pub textFoot : List ℕ
+textFoot =
+    ascii "@ page 0  . free  L large run  = run goes on\n"
+    ++ ascii "0-9 class run, tenths of its slots taken  X all of them\n"
+    ++ ascii "live $ bytes $ free pages $\n"
 
 -- ---- as SVG: a box for each page, 15 by 20 in cells of 16 by 22, filled from below as its slots are taken
 
--- a box of the fill k
+-- a box, by its fill, place and size
 unfoldable pub box : ℕ → ℕ → ℕ → ℕ → ℕ → List ℕ
-box k x y w h =
-    ascii "<rect class=\"" ++
-    (k ∷
-    (twoOf (ascii "\" x=\"") x (ascii "\" y=\"") y (ascii "\"") ++ twoOf (ascii " width=\"") w (ascii "\" height=\"") h (ascii "\"/>\n")))
-
--- v tenths of it, from below
-unfoldable pub bar : ℕ → ℕ → ℕ → ℕ → List ℕ
-bar x y w v = only (ltb 0 v) (box (code "u") x (y + (20 - 2 * v)) w (2 * v))
-
--- the number in a box
-unfoldable pub label : ℕ → ℕ → ℕ → List ℕ
-label x y n =
-    only (ltb 0 n)
-    (twoOf (ascii "<text class=\"n\" x=\"") (x + 1) (ascii "\" y=\"") (y + 13) (ascii "\">") ++ oneOf [] n (ascii "</text>\n"))
+box k x y w h = filled (ascii "<rect class=\"~\" x=\"$\" y=\"$\" width=\"$\" height=\"$\"/>\n") (k ∷ x ∷ y ∷ w ∷ h ∷ [])
 
 -- the upper end of page g's box
 abbrev pub top : ℕ → ℕ
@@ -66,67 +43,52 @@ top g = 26 + 22 * (g / 64) + 28 * (g / 512)
 abbrev pub left : ℕ → ℕ → ℕ
 left g j = 17 + 16 * (g % 64) - j
 
--- the number of a chunk, above it
-unfoldable pub title : ℕ → List ℕ
-title g = only (eqb (g % 512) 0) (twoOf (ascii "<text x=\"17\" y=\"") (top g - 7) (ascii "\">chunk ") (g / 512) (ascii "</text>\n"))
-
+-- above a chunk its number; then the page's box, v tenths of it filled, and the number in it
 unfoldable pub svgPage : ℕ → Cell → List ℕ
 svgPage g s =
     let x = left g (s .joined) in
     let w = 15 + s .joined in
-    title g ++ (box (s .fill) x (top g) w 20 ++ (bar x (top g) w (s .level) ++ label x (top g) (s .label)))
+    let v = s .level in
+    only (eqb (g % 512) 0) (filled (ascii "<text x=\"17\" y=\"$\">chunk $</text>\n") ((top g - 7) ∷ g / 512 ∷ []))
+    ++ (box (s .fill) x (top g) w 20
+    ++ (only (ltb 0 v) (box (code "u") x (top g + (20 - 2 * v)) w (2 * v))
+    ++ only (ltb 0 (s .label)) (filled (ascii "<text class=\"n\" x=\"$\" y=\"$\">$</text>\n") ((x + 1) ∷ (top g + 13) ∷ s .label ∷ []))))
 
--- the fills: p paper, e page 0, f free, l large run, c class run, u its taken slots; labels are n. Orange and blue are told apart by
--- most who see few colours, and fullness is a height
-unfoldable pub styles : List ℕ
-styles =
-    ascii "<style>text{font:13px sans-serif}.n{font:5.5px Arial,Helvetica,sans-serif}rect{shape-rendering:crispEdges}" ++
-    (ascii ".p{fill:#fff}.e{fill:#555}.f{fill:#eee}.l{fill:#e69f00}.c{fill:#d6eaf8}.u{fill:#56b4e9}</style>\n" ++
-    (ascii "<rect class=\"p\" width=\"100%\" height=\"100%\"/>\n"))
+-- the picture's size, and the fills: p paper, e page 0, f free, l large run, c class run, u its taken slots; labels are n. Orange and blue
+-- are told apart by most who see few colours, and fullness is a height
+abbrev pub svgHead : List ℕ
+svgHead =
+    ascii "<svg xmlns=\"http://www.w3.org/2000/svg\" width=\"1058\" height=\"$\" viewBox=\"0 0 1058 $\">\n"
+    ++ ascii "<style>text{font:13px sans-serif}.n{font:5.5px Arial,Helvetica,sans-serif}rect{shape-rendering:crispEdges}"
+    ++ ascii ".p{fill:#fff}.e{fill:#555}.f{fill:#eee}.l{fill:#e69f00}.c{fill:#d6eaf8}.u{fill:#56b4e9}</style>\n"
+    ++ ascii "<rect class=\"p\" width=\"100%\" height=\"100%\"/>\n"
 
--- the picture's head: its size, and its styles
-unfoldable pub svgHead : ℕ → List ℕ
-svgHead c =
-    twoOf (ascii "<svg xmlns=\"http://www.w3.org/2000/svg\" width=\"1058\" height=\"") (204 * c + 74)
-    (ascii "\" viewBox=\"0 0 1058 ") (204 * c + 74) (ascii "\">\n") ++ styles
-
--- what boxes and labels say: those of pages and large runs, then those of class runs
-unfoldable pub legend : List ℕ
-legend =
-    ascii "<rect class=\"e\" width=\"15\" height=\"20\"/>\n<text x=\"22\" y=\"15\">page 0</text>\n" ++
-    (ascii "<rect class=\"f\" x=\"84\" width=\"15\" height=\"20\"/>\n<text x=\"106\" y=\"15\">free</text>\n" ++
-    (ascii "<rect class=\"l\" x=\"154\" width=\"47\" height=\"20\"/>\n<text class=\"n\" x=\"155\" y=\"13\">3</text>\n" ++
-    (ascii "<text x=\"208\" y=\"15\">large run with its pages</text>\n")))
-
-unfoldable pub classLegend : List ℕ
-classLegend =
-    ascii "<rect class=\"c\" x=\"388\" width=\"15\" height=\"20\"/>\n<rect class=\"u\" x=\"388\" y=\"14\" width=\"15\" height=\"6\"/>\n" ++
-    (ascii "<text class=\"n\" x=\"389\" y=\"13\">24</text>\n<rect class=\"c\" x=\"404\" width=\"79\" height=\"20\"/>\n" ++
-    (ascii "<rect class=\"u\" x=\"404\" y=\"6\" width=\"79\" height=\"14\"/>\n<text class=\"n\" x=\"405\" y=\"13\">320</text>\n" ++
-    (ascii "<text x=\"490\" y=\"15\">class runs with their slot size, filled as their slots are taken</text>\n")))
-
-unfoldable pub svgTotals : Sums → List ℕ
-svgTotals t =
-    twoOf (ascii "<text y=\"44\">") (t .blocks) (ascii " live blocks, ") (t .bytes) (ascii " bytes given, ") ++
-    oneOf [] (t .free) (ascii " free pages</text>\n</g>\n</svg>\n")
-
--- its foot, below the chunks: the legend, and the totals
-unfoldable pub svgFoot : ℕ → Sums → List ℕ
-svgFoot c t = oneOf (ascii "<g transform=\"translate(17 ") (204 * c + 20) (ascii ")\">\n") ++ (legend ++ (classLegend ++ svgTotals t))
+-- below the chunks: what boxes and labels say, and the totals
+abbrev pub svgFoot : List ℕ
+svgFoot =
+    ascii "<g transform=\"translate(17 $)\">\n"
+    ++ ascii "<rect class=\"e\" width=\"15\" height=\"20\"/>\n<text x=\"22\" y=\"15\">page 0</text>\n"
+    ++ ascii "<rect class=\"f\" x=\"84\" width=\"15\" height=\"20\"/>\n<text x=\"106\" y=\"15\">free</text>\n"
+    ++ ascii "<rect class=\"l\" x=\"154\" width=\"47\" height=\"20\"/>\n<text class=\"n\" x=\"155\" y=\"13\">3</text>\n"
+    ++ ascii "<text x=\"208\" y=\"15\">large run with its pages</text>\n"
+    ++ ascii "<rect class=\"c\" x=\"388\" width=\"15\" height=\"20\"/>\n<rect class=\"u\" x=\"388\" y=\"14\" width=\"15\" height=\"6\"/>\n"
+    ++ ascii "<text class=\"n\" x=\"389\" y=\"13\">24</text>\n<rect class=\"c\" x=\"404\" width=\"79\" height=\"20\"/>\n"
+    ++ ascii "<rect class=\"u\" x=\"404\" y=\"6\" width=\"79\" height=\"14\"/>\n<text class=\"n\" x=\"405\" y=\"13\">320</text>\n"
+    ++ ascii "<text x=\"490\" y=\"15\">class runs with their slot size, filled as their slots are taken</text>\n"
+    ++ ascii "<text y=\"44\">$ live blocks, $ bytes given, $ free pages</text>\n</g>\n</svg>\n"
 
 -- ---- a drawing, as SVG or as text
 
-abbrev pub headOf : Bool → ℕ → List ℕ
-headOf true c = svgHead c
-headOf false c = []
+unfoldable pub headOf : Bool → ℕ → List ℕ
+headOf v c = only v (filled svgHead ((204 * c + 74) ∷ (204 * c + 74) ∷ []))
 
 abbrev pub pageOf : Bool → ℕ → Cell → List ℕ
 pageOf true g s = svgPage g s
 pageOf false g s = textPage g s
 
-abbrev pub footOf : Bool → ℕ → Sums → List ℕ
-footOf true c t = svgFoot c t
-footOf false c t = textFoot t
+unfoldable pub footOf : Bool → ℕ → Sums → List ℕ
+footOf true c t = filled svgFoot ((204 * c + 20) ∷ t .blocks ∷ t .bytes ∷ t .free ∷ [])
+footOf false c t = filled textFoot (t .blocks ∷ t .bytes ∷ t .free ∷ [])
 
 -- n pages from page g on, behind the cell `last`
 unfoldable pub pagesFrom : Bool → Pool → Cell → ℕ → ℕ → List ℕ

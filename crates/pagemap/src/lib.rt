@@ -1,20 +1,16 @@
 // Drawings of a pool: what each page is and how full its runs are, as text or as an SVG picture.
-use text::put_one;
-use text::put_text;
-use text::put_two;
+use text::put_filled;
+use text::put_only;
 ghost use mathlib.Core.Path.{_≡_};
 ghost use mathlib.Core.Bool.{true, false};
-ghost use mathlib.Core.List.{[], _∷_};
 ghost use Prim.Native.Nat.{_+_, _*_, _≤_, _<_};
 ghost use lib.ListN.{length, take};
 ghost use Rattle.records.specs.Pool.{pool};
 ghost use Rattle.records.specs.Calls.{admitOf};
-ghost use Rattle.text.specs.Text.{Appends};
+ghost use Rattle.text.specs.Text.{Appends, only};
 ghost use Rattle.cells.specs.Cells.{noCell};
-ghost use Rattle.pagemap.specs.Drawing.{chunkLine, rowEnd, textPage, totalsLine, textFoot};
-ghost use Rattle.pagemap.specs.Drawing.{box, bar, label, title, svgPage, styles, svgHead, legend, classLegend, svgTotals, svgFoot};
-ghost use Rattle.pagemap.specs.Drawing.{headOf, pageOf, footOf, pagesFrom, headRoom, pageRoom, footRoom, roomFor};
-ghost use Rattle.pagemap.specs.Drawing.{shown, showing, drawnOf};
+ghost use Rattle.pagemap.specs.Drawing.{textPage, box, svgPage, headOf, pageOf, footOf, pagesFrom};
+ghost use Rattle.pagemap.specs.Drawing.{headRoom, pageRoom, footRoom, roomFor, shown, showing, drawnOf};
 
 // The answer; C reads it as it is.
 #[repr(C)]
@@ -25,139 +21,31 @@ pub struct Drawn {
 
 // ---- as text
 
-// One byte.
-fn put_byte(out: &mut [u8], at: usize, b: u8) -> usize
-    requires { ⌜ at + 1 ≤ length (now out) ⌝ }
-    ensures { λ r. ⌜ Appends (now (out .entry)) (now (out .exit)) at r (b ∷ []) ⌝ }
-{
-    out[at] = b;
-    at + 1
-}
-
-// The line that begins a chunk.
-fn put_chunk_line(out: &mut [u8], at: usize, g: u64) -> usize
-    requires { ⌜ at + 27 ≤ length (now out) ⌝ }
-    ensures { λ r. ⌜ Appends (now (out .entry)) (now (out .exit)) at r (chunkLine g) ⌝ }
-    ensures { λ r. ⌜ r ≤ at + 27 ⌝ }
-{
-    if g % 512 != 0 {
-        return at;
-    }
-    put_one(out, at, b"chunk ", g / 512, b"\n")
-}
-
-// The end of a row.
-fn put_row_end(out: &mut [u8], at: usize, g: u64) -> usize
-    requires { ⌜ at + 1 ≤ length (now out) ⌝ }
-    ensures { λ r. ⌜ Appends (now (out .entry)) (now (out .exit)) at r (rowEnd g) ⌝ }
-    ensures { λ r. ⌜ r ≤ at + 1 ⌝ }
-{
-    if g % 64 != 63 {
-        return at;
-    }
-    put_byte(out, at, b'\n')
-}
-
 // A page.
 fn put_text_page(out: &mut [u8], at: usize, g: u64, s: cells::Cell) -> usize
     requires { ⌜ at + 29 ≤ length (now out) ⌝ }
     ensures { λ r. ⌜ Appends (now (out .entry)) (now (out .exit)) at r (textPage g s) ⌝ }
     ensures { λ r. ⌜ r ≤ at + 29 ⌝ }
 {
-    let i = put_chunk_line(out, at, g);
-    let j = put_byte(out, i, s.mark);
-    put_row_end(out, j, g)
-}
-
-// The last line of a map.
-fn put_totals(out: &mut [u8], at: usize, t: totals::Sums) -> usize
-    requires { ⌜ at + 85 ≤ length (now out) ⌝ }
-    ensures { λ r. ⌜ Appends (now (out .entry)) (now (out .exit)) at r (totalsLine t) ⌝ }
-    ensures { λ r. ⌜ r ≤ at + 85 ⌝ }
-{
-    let i = put_two(out, at, b"live ", t.blocks, b" bytes ", t.bytes, b"");
-    put_one(out, i, b" free pages ", t.free, b"\n")
-}
-
-// What the marks say, and the totals.
-fn put_text_foot(out: &mut [u8], at: usize, t: totals::Sums) -> usize
-    requires { ⌜ at + 256 ≤ length (now out) ⌝ }
-    ensures { λ r. ⌜ Appends (now (out .entry)) (now (out .exit)) at r (textFoot t) ⌝ }
-    ensures { λ r. ⌜ r ≤ at + 256 ⌝ }
-{
-    let i = put_text(
-        out,
-        at,
-        b"@ page 0  . free  L large run  = run goes on\n0-9 class run, tenths of its slots taken  X all of them\n",
-    );
-    put_totals(out, i, t)
+    let i = put_only(g % 512 == 0, out, at, b"chunk $\n", &[g / 512]);
+    let j = put_filled(out, i, b"~", &[s.mark as u64]);
+    put_only(g % 64 == 63, out, j, b"\n", &[])
 }
 
 // ---- as SVG
 
-// A box of the fill k.
-fn put_box(out: &mut [u8], at: usize, k: u8, x: u64, y: u64, w: u64, h: u64) -> usize
+// A box of the fill k, only where the test holds.
+fn put_box(v: bool, out: &mut [u8], at: usize, k: u64, x: u64, y: u64, w: u64, h: u64) -> usize
     requires { ⌜ at + 127 ≤ length (now out) ⌝ }
-    ensures { λ r. ⌜ Appends (now (out .entry)) (now (out .exit)) at r (box k x y w h) ⌝ }
+    ensures { λ r. ⌜ Appends (now (out .entry)) (now (out .exit)) at r (only v (box k x y w h)) ⌝ }
     ensures { λ r. ⌜ r ≤ at + 127 ⌝ }
 {
-    let i = put_text(out, at, b"<rect class=\"");
-    let j = put_byte(out, i, k);
-    let l = put_two(out, j, b"\" x=\"", x, b"\" y=\"", y, b"\"");
-    put_two(out, l, b" width=\"", w, b"\" height=\"", h, b"\"/>\n")
-}
-
-// How far a box is filled.
-fn put_bar(out: &mut [u8], at: usize, x: u64, y: u64, w: u64, v: u64) -> usize
-    requires { ⌜ (at + 127 ≤ length (now out)) × (v ≤ 10) × (y < 65536) ⌝ }
-    ensures { λ r. ⌜ Appends (now (out .entry)) (now (out .exit)) at r (bar x y w v) ⌝ }
-    ensures { λ r. ⌜ r ≤ at + 127 ⌝ }
-{
-    if 0 < v {
-        return put_box(out, at, b'u', x, y + (20 - 2 * v), w, 2 * v);
-    }
-    at
-}
-
-// The number in a box.
-fn put_label(out: &mut [u8], at: usize, x: u64, y: u64, n: u64) -> usize
-    requires { ⌜ (at + 94 ≤ length (now out)) × (x < 65536) × (y < 65536) ⌝ }
-    ensures { λ r. ⌜ Appends (now (out .entry)) (now (out .exit)) at r (label x y n) ⌝ }
-    ensures { λ r. ⌜ r ≤ at + 94 ⌝ }
-{
-    if 0 < n {
-        let i = put_two(
-            out,
-            at,
-            b"<text class=\"n\" x=\"",
-            x + 1,
-            b"\" y=\"",
-            y + 13,
-            b"\">",
-        );
-        return put_one(out, i, b"", n, b"</text>\n");
-    }
-    at
-}
-
-// The number of a chunk.
-fn put_title(out: &mut [u8], at: usize, g: u64) -> usize
-    requires { ⌜ (at + 72 ≤ length (now out)) × (g < 8192) ⌝ }
-    ensures { λ r. ⌜ Appends (now (out .entry)) (now (out .exit)) at r (title g) ⌝ }
-    ensures { λ r. ⌜ r ≤ at + 72 ⌝ }
-{
-    if g % 512 != 0 {
-        return at;
-    }
-    let y = 26 + 22 * (g / 64) + 28 * (g / 512) - 7;
-    put_two(
+    put_only(
+        v,
         out,
         at,
-        b"<text x=\"17\" y=\"",
-        y,
-        b"\">chunk ",
-        g / 512,
-        b"</text>\n",
+        b"<rect class=\"~\" x=\"$\" y=\"$\" width=\"$\" height=\"$\"/>\n",
+        &[k, x, y, w, h],
     )
 }
 
@@ -170,144 +58,23 @@ fn put_svg_page(out: &mut [u8], at: usize, g: u64, s: cells::Cell) -> usize
     let x = 17 + 16 * (g % 64) - s.joined;
     let y = 26 + 22 * (g / 64) + 28 * (g / 512);
     let w = 15 + s.joined;
-    let i = put_title(out, at, g);
-    let j = put_box(out, i, s.fill, x, y, w, 20);
-    let k = put_bar(out, j, x, y, w, s.level);
-    put_label(out, k, x, y, s.label)
-}
-
-// The colours of the fills.
-fn put_styles(out: &mut [u8], at: usize) -> usize
-    requires { ⌜ at + 512 ≤ length (now out) ⌝ }
-    ensures { λ r. ⌜ Appends (now (out .entry)) (now (out .exit)) at r styles ⌝ }
-    ensures { λ r. ⌜ r ≤ at + 512 ⌝ }
-{
-    let i = put_text(
+    let v = s.level;
+    let i = put_only(
+        g % 512 == 0,
         out,
         at,
-        b"<style>text{font:13px sans-serif}.n{font:5.5px Arial,Helvetica,sans-serif}rect{shape-rendering:crispEdges}",
+        b"<text x=\"17\" y=\"$\">chunk $</text>\n",
+        &[y - 7, g / 512],
     );
-    let j = put_text(
-        out,
-        i,
-        b".p{fill:#fff}.e{fill:#555}.f{fill:#eee}.l{fill:#e69f00}.c{fill:#d6eaf8}.u{fill:#56b4e9}</style>\n",
-    );
-    put_text(
-        out,
-        j,
-        b"<rect class=\"p\" width=\"100%\" height=\"100%\"/>\n",
-    )
-}
-
-// The size of the picture, and its styles.
-fn put_svg_head(out: &mut [u8], at: usize, c: u64) -> usize
-    requires { ⌜ (at + 1024 ≤ length (now out)) × (c ≤ 16) ⌝ }
-    ensures { λ r. ⌜ Appends (now (out .entry)) (now (out .exit)) at r (svgHead c) ⌝ }
-    ensures { λ r. ⌜ r ≤ at + 1024 ⌝ }
-{
-    let h = 204 * c + 74;
-    let i = put_two(
-        out,
-        at,
-        b"<svg xmlns=\"http://www.w3.org/2000/svg\" width=\"1058\" height=\"",
-        h,
-        b"\" viewBox=\"0 0 1058 ",
-        h,
-        b"\">\n",
-    );
-    put_styles(out, i)
-}
-
-// What boxes and labels say: those of pages and large runs.
-fn put_legend(out: &mut [u8], at: usize) -> usize
-    requires { ⌜ at + 384 ≤ length (now out) ⌝ }
-    ensures { λ r. ⌜ Appends (now (out .entry)) (now (out .exit)) at r legend ⌝ }
-    ensures { λ r. ⌜ r ≤ at + 384 ⌝ }
-{
-    let i = put_text(
-        out,
-        at,
-        b"<rect class=\"e\" width=\"15\" height=\"20\"/>\n<text x=\"22\" y=\"15\">page 0</text>\n",
-    );
-    let j = put_text(
-        out,
-        i,
-        b"<rect class=\"f\" x=\"84\" width=\"15\" height=\"20\"/>\n<text x=\"106\" y=\"15\">free</text>\n",
-    );
-    let k = put_text(
-        out,
-        j,
-        b"<rect class=\"l\" x=\"154\" width=\"47\" height=\"20\"/>\n<text class=\"n\" x=\"155\" y=\"13\">3</text>\n",
-    );
-    put_text(
+    let j = put_box(true, out, i, s.fill as u64, x, y, w, 20);
+    let k = put_box(0 < v, out, j, b'u' as u64, x, y + (20 - 2 * v), w, 2 * v);
+    put_only(
+        0 < s.label,
         out,
         k,
-        b"<text x=\"208\" y=\"15\">large run with its pages</text>\n",
+        b"<text class=\"n\" x=\"$\" y=\"$\">$</text>\n",
+        &[x + 1, y + 13, s.label],
     )
-}
-
-// Those of class runs.
-fn put_class_legend(out: &mut [u8], at: usize) -> usize
-    requires { ⌜ at + 400 ≤ length (now out) ⌝ }
-    ensures { λ r. ⌜ Appends (now (out .entry)) (now (out .exit)) at r classLegend ⌝ }
-    ensures { λ r. ⌜ r ≤ at + 400 ⌝ }
-{
-    let i = put_text(
-        out,
-        at,
-        b"<rect class=\"c\" x=\"388\" width=\"15\" height=\"20\"/>\n<rect class=\"u\" x=\"388\" y=\"14\" width=\"15\" height=\"6\"/>\n",
-    );
-    let j = put_text(
-        out,
-        i,
-        b"<text class=\"n\" x=\"389\" y=\"13\">24</text>\n<rect class=\"c\" x=\"404\" width=\"79\" height=\"20\"/>\n",
-    );
-    let k = put_text(
-        out,
-        j,
-        b"<rect class=\"u\" x=\"404\" y=\"6\" width=\"79\" height=\"14\"/>\n<text class=\"n\" x=\"405\" y=\"13\">320</text>\n",
-    );
-    put_text(
-        out,
-        k,
-        b"<text x=\"490\" y=\"15\">class runs with their slot size, filled as their slots are taken</text>\n",
-    )
-}
-
-// The last line of a picture.
-fn put_svg_totals(out: &mut [u8], at: usize, t: totals::Sums) -> usize
-    requires { ⌜ at + 140 ≤ length (now out) ⌝ }
-    ensures { λ r. ⌜ Appends (now (out .entry)) (now (out .exit)) at r (svgTotals t) ⌝ }
-    ensures { λ r. ⌜ r ≤ at + 140 ⌝ }
-{
-    let i = put_two(
-        out,
-        at,
-        b"<text y=\"44\">",
-        t.blocks,
-        b" live blocks, ",
-        t.bytes,
-        b" bytes given, ",
-    );
-    put_one(out, i, b"", t.free, b" free pages</text>\n</g>\n</svg>\n")
-}
-
-// The legend and the totals, below the chunks.
-fn put_svg_foot(out: &mut [u8], at: usize, c: u64, t: totals::Sums) -> usize
-    requires { ⌜ (at + 1024 ≤ length (now out)) × (c ≤ 16) ⌝ }
-    ensures { λ r. ⌜ Appends (now (out .entry)) (now (out .exit)) at r (svgFoot c t) ⌝ }
-    ensures { λ r. ⌜ r ≤ at + 1024 ⌝ }
-{
-    let i = put_one(
-        out,
-        at,
-        b"<g transform=\"translate(17 ",
-        204 * c + 20,
-        b")\">\n",
-    );
-    let j = put_legend(out, i);
-    let k = put_class_legend(out, j);
-    put_svg_totals(out, k, t)
 }
 
 // ---- either
@@ -332,7 +99,16 @@ fn put_head(svg: bool, out: &mut [u8], c: u64) -> usize
     ensures { λ r. ⌜ r ≤ headRoom svg ⌝ }
 {
     if svg {
-        return put_svg_head(out, 0, c);
+        let h = 204 * c + 74;
+        return put_filled(
+            out,
+            0,
+            b"<svg xmlns=\"http://www.w3.org/2000/svg\" width=\"1058\" height=\"$\" viewBox=\"0 0 1058 $\">\n\
+<style>text{font:13px sans-serif}.n{font:5.5px Arial,Helvetica,sans-serif}rect{shape-rendering:crispEdges}\
+.p{fill:#fff}.e{fill:#555}.f{fill:#eee}.l{fill:#e69f00}.c{fill:#d6eaf8}.u{fill:#56b4e9}</style>\n\
+<rect class=\"p\" width=\"100%\" height=\"100%\"/>\n",
+            &[h, h],
+        );
     }
     0
 }
@@ -344,9 +120,30 @@ fn put_foot(svg: bool, out: &mut [u8], at: usize, c: u64, t: totals::Sums) -> us
     ensures { λ r. ⌜ r ≤ at + footRoom svg ⌝ }
 {
     if svg {
-        put_svg_foot(out, at, c, t)
+        put_filled(
+            out,
+            at,
+            b"<g transform=\"translate(17 $)\">\n\
+<rect class=\"e\" width=\"15\" height=\"20\"/>\n<text x=\"22\" y=\"15\">page 0</text>\n\
+<rect class=\"f\" x=\"84\" width=\"15\" height=\"20\"/>\n<text x=\"106\" y=\"15\">free</text>\n\
+<rect class=\"l\" x=\"154\" width=\"47\" height=\"20\"/>\n<text class=\"n\" x=\"155\" y=\"13\">3</text>\n\
+<text x=\"208\" y=\"15\">large run with its pages</text>\n\
+<rect class=\"c\" x=\"388\" width=\"15\" height=\"20\"/>\n<rect class=\"u\" x=\"388\" y=\"14\" width=\"15\" height=\"6\"/>\n\
+<text class=\"n\" x=\"389\" y=\"13\">24</text>\n<rect class=\"c\" x=\"404\" width=\"79\" height=\"20\"/>\n\
+<rect class=\"u\" x=\"404\" y=\"6\" width=\"79\" height=\"14\"/>\n<text class=\"n\" x=\"405\" y=\"13\">320</text>\n\
+<text x=\"490\" y=\"15\">class runs with their slot size, filled as their slots are taken</text>\n\
+<text y=\"44\">$ live blocks, $ bytes given, $ free pages</text>\n</g>\n</svg>\n",
+            &[204 * c + 20, t.blocks, t.bytes, t.free],
+        )
     } else {
-        put_text_foot(out, at, t)
+        put_filled(
+            out,
+            at,
+            b"@ page 0  . free  L large run  = run goes on\n\
+0-9 class run, tenths of its slots taken  X all of them\n\
+live $ bytes $ free pages $\n",
+            &[t.blocks, t.bytes, t.free],
+        )
     }
 }
 

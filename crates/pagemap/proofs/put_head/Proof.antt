@@ -1,25 +1,50 @@
 -- `pagemap::put_head` meets its contract. Assumes nothing.
 use mathlib.Core.Path.{ap}
 use native.Mathlib.Omega.{arith}
-use Rattle.pagemap.specs.Drawing.{headRoom}
-use Rattle.pagemap.proofs.DrawLaws.{head-svg, head-text}
+use Rattle.text.proofs.TextLaws.{only-here, only-else}
+use Rattle.pagemap.specs.Drawing.{headOf, headRoom}
 use borrow.Author.Needs.{needs}
 use Rattle.pagemap.proofs.put_head.Statement.{statement}
 use Rattle.pagemap.proofs.put_head.Tie as tie
 
-put-svg-head-requires : tie.Need-put-svg-head-requires
-put-svg-head-requires c κs = let e = c .before .before .before .pre in (omega (arith, ap headRoom (c .before .if1 .taken), e .0), e .1)
+mul-h : tie.Need-mul-h
+mul-h c = search needs
+
+add-h : tie.Need-add-h
+add-h c = search needs
+
+slice-aggregate-put-filled : tie.Need-slice-aggregate-put-filled
+slice-aggregate-put-filled c = search needs
+
+slice-aggregate-put-filled-2 : tie.Need-slice-aggregate-put-filled-2
+slice-aggregate-put-filled-2 c = search needs
+
+put-filled-requires : tie.Need-put-filled-requires
+put-filled-requires c κs = omega (arith, ap headRoom (c .before .before .before .if1 .taken))
 
 same-length : tie.Need-same-length
 same-length c = search needs
 
 returns : tie.Need-returns
+unfolding headOf
 returns c =
-    let p = c .before .before .put-svg-head .ensures in
-    head-svg _ (c .before .before .before .before .if1 .taken) (p .0) (omega arith)
+    let p = c .before .before in
+    let e = p .before .before .before .before .if1 .taken in
+    (only-here _ _ e (p .put-filled .ensures .0), omega (arith, ap headRoom e))
 
 returns-2 : tie.Need-returns-2
-returns-2 c = head-text _ (c .if1 .left)
+unfolding headOf
+returns-2 c = (only-else _ _ (c .if1 .left), omega arith)
 
 pub put-head-spec : {M : Type 1} → statement M
-put-head-spec = tie.close (tie.spec put-svg-head-requires same-length returns returns-2)
+put-head-spec =
+    tie.close
+    (tie.spec
+    mul-h
+    add-h
+    slice-aggregate-put-filled
+    slice-aggregate-put-filled-2
+    put-filled-requires
+    same-length
+    returns
+    returns-2)
