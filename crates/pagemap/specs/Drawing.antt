@@ -11,17 +11,20 @@ use Rattle.records.specs.Calls.{admitOf, unless}
 use Rattle.totals.specs.declared.Sums.{Sums}
 use Rattle.totals.specs.Totals.{tallied}
 use Rattle.text.specs.Ascii.{ascii}
-use Rattle.text.specs.Text.{filled, only}
+use Rattle.text.specs.Text.{filled}
 use Rattle.cells.specs.declared.Cell.{Cell}
 use Rattle.cells.specs.Cells.{noCell, cellAt}
 use Rattle.pagemap.specs.declared.Drawn.{Drawn}
 
+-- 1 where the test holds
+abbrev pub flag : Bool → ℕ
+flag true = 1
+flag false = 0
+
 -- ---- as text: for each chunk a line and 8 rows of 64 characters, one a page; then what they say, and the totals
 
 unfoldable pub textPage : ℕ → Cell → List ℕ
-textPage g s =
-    only (eqb (g % 512) 0) (filled (ascii "chunk $\n") (g / 512 ∷ []))
-    ++ (filled (ascii "~") (s .mark ∷ []) ++ only (eqb (g % 64) 63) (ascii "\n"))
+textPage g s = filled (ascii "[chunk $\n]~[\n]") (flag (eqb (g % 512) 0) ∷ g / 512 ∷ s .mark ∷ flag (eqb (g % 64) 63) ∷ [])
 
 abbrev pub textFoot : List ℕ
 textFoot =
@@ -31,10 +34,6 @@ textFoot =
 
 -- ---- as SVG: a box for each page, 15 by 20 in cells of 16 by 22, filled from below as its slots are taken
 
--- a box, by its fill, place and size
-unfoldable pub box : ℕ → ℕ → ℕ → ℕ → ℕ → List ℕ
-box k x y w h = filled (ascii "<rect class=\"~\" x=\"$\" y=\"$\" width=\"$\" height=\"$\"/>\n") (k ∷ x ∷ y ∷ w ∷ h ∷ [])
-
 -- the upper end of page g's box
 abbrev pub top : ℕ → ℕ
 top g = 26 + 22 * (g / 64) + 28 * (g / 512)
@@ -43,16 +42,22 @@ top g = 26 + 22 * (g / 64) + 28 * (g / 512)
 abbrev pub left : ℕ → ℕ → ℕ
 left g j = 17 + 16 * (g % 64) - j
 
--- above a chunk its number; then the page's box, v tenths of it filled, and the number in it
+-- above a chunk its number; then the page's box, as many tenths of it as its level filled from below, and the number in it
+abbrev pub svgCell : List ℕ
+svgCell =
+    ascii "[<text x=\"17\" y=\"$\">chunk $</text>\n]"
+    ++ ascii "<rect class=\"~\" x=\"$\" y=\"$\" width=\"$\" height=\"20\"/>\n"
+    ++ ascii "[<rect class=\"u\" x=\"$\" y=\"$\" width=\"$\" height=\"$\"/>\n]"
+    ++ ascii "[<text class=\"n\" x=\"$\" y=\"$\">$</text>\n]"
+
 unfoldable pub svgPage : ℕ → Cell → List ℕ
 svgPage g s =
     let x = left g (s .joined) in
     let w = 15 + s .joined in
     let v = s .level in
-    only (eqb (g % 512) 0) (filled (ascii "<text x=\"17\" y=\"$\">chunk $</text>\n") ((top g - 7) ∷ g / 512 ∷ []))
-    ++ (box (s .fill) x (top g) w 20
-    ++ (only (ltb 0 v) (box (code "u") x (top g + (20 - 2 * v)) w (2 * v))
-    ++ only (ltb 0 (s .label)) (filled (ascii "<text class=\"n\" x=\"$\" y=\"$\">$</text>\n") ((x + 1) ∷ (top g + 13) ∷ s .label ∷ []))))
+    filled svgCell
+    (flag (eqb (g % 512) 0) ∷ (top g - 7) ∷ g / 512 ∷ s .fill ∷ x ∷ top g ∷ w ∷ v ∷ x ∷ (top g + (20 - 2 * v)) ∷ w ∷ 2 * v ∷ s .label
+    ∷ (x + 1) ∷ (top g + 13) ∷ s .label ∷ [])
 
 -- the picture's size, and the fills: p paper, e page 0, f free, l large run, c class run, u its taken slots; labels are n. Orange and blue
 -- are told apart by most who see few colours, and fullness is a height
@@ -80,7 +85,8 @@ svgFoot =
 -- ---- a drawing, as SVG or as text
 
 unfoldable pub headOf : Bool → ℕ → List ℕ
-headOf v c = only v (filled svgHead ((204 * c + 74) ∷ (204 * c + 74) ∷ []))
+headOf true c = filled svgHead ((204 * c + 74) ∷ (204 * c + 74) ∷ [])
+headOf false c = []
 
 abbrev pub pageOf : Bool → ℕ → Cell → List ℕ
 pageOf true g s = svgPage g s

@@ -1,15 +1,14 @@
 // Drawings of a pool: what each page is and how full its runs are, as text or as an SVG picture.
 use text::put_filled;
-use text::put_only;
 ghost use mathlib.Core.Path.{_≡_};
 ghost use mathlib.Core.Bool.{true, false};
 ghost use Prim.Native.Nat.{_+_, _*_, _≤_, _<_};
 ghost use lib.ListN.{length, take};
 ghost use Rattle.records.specs.Pool.{pool};
 ghost use Rattle.records.specs.Calls.{admitOf};
-ghost use Rattle.text.specs.Text.{Appends, only};
+ghost use Rattle.text.specs.Text.{Appends};
 ghost use Rattle.cells.specs.Cells.{noCell};
-ghost use Rattle.pagemap.specs.Drawing.{textPage, box, svgPage, headOf, pageOf, footOf, pagesFrom};
+ghost use Rattle.pagemap.specs.Drawing.{textPage, svgPage, headOf, pageOf, footOf, pagesFrom};
 ghost use Rattle.pagemap.specs.Drawing.{headRoom, pageRoom, footRoom, roomFor, shown, showing, drawnOf};
 
 // The answer; C reads it as it is.
@@ -19,65 +18,41 @@ pub struct Drawn {
     pub length: u64,
 }
 
-// ---- as text
-
-// A page.
+// A page as text.
 fn put_text_page(out: &mut [u8], at: usize, g: u64, s: cells::Cell) -> usize
     requires { ⌜ at + 29 ≤ length (now out) ⌝ }
     ensures { λ r. ⌜ Appends (now (out .entry)) (now (out .exit)) at r (textPage g s) ⌝ }
     ensures { λ r. ⌜ r ≤ at + 29 ⌝ }
 {
-    let i = put_only(g % 512 == 0, out, at, b"chunk $\n", &[g / 512]);
-    let j = put_filled(out, i, b"~", &[s.mark as u64]);
-    put_only(g % 64 == 63, out, j, b"\n", &[])
+    let first = (g % 512 == 0) as u64;
+    let last = (g % 64 == 63) as u64;
+    put_filled(out, at, b"[chunk $\n]~[\n]", &[first, g / 512, s.mark as u64, last])
 }
 
-// ---- as SVG
-
-// A box of the fill k, only where the test holds.
-fn put_box(v: bool, out: &mut [u8], at: usize, k: u64, x: u64, y: u64, w: u64, h: u64) -> usize
-    requires { ⌜ at + 127 ≤ length (now out) ⌝ }
-    ensures { λ r. ⌜ Appends (now (out .entry)) (now (out .exit)) at r (only v (box k x y w h)) ⌝ }
-    ensures { λ r. ⌜ r ≤ at + 127 ⌝ }
-{
-    put_only(
-        v,
-        out,
-        at,
-        b"<rect class=\"~\" x=\"$\" y=\"$\" width=\"$\" height=\"$\"/>\n",
-        &[k, x, y, w, h],
-    )
-}
-
-// A page.
+// A page as SVG.
 fn put_svg_page(out: &mut [u8], at: usize, g: u64, s: cells::Cell) -> usize
     requires { ⌜ (at + 420 ≤ length (now out)) × (g < 8192) × (s .joined ≤ 1) × (s .level ≤ 10) ⌝ }
     ensures { λ r. ⌜ Appends (now (out .entry)) (now (out .exit)) at r (svgPage g s) ⌝ }
     ensures { λ r. ⌜ r ≤ at + 420 ⌝ }
 {
+    let first = (g % 512 == 0) as u64;
     let x = 17 + 16 * (g % 64) - s.joined;
     let y = 26 + 22 * (g / 64) + 28 * (g / 512);
     let w = 15 + s.joined;
     let v = s.level;
-    let i = put_only(
-        g % 512 == 0,
+    let top = y + (20 - 2 * v);
+    put_filled(
         out,
         at,
-        b"<text x=\"17\" y=\"$\">chunk $</text>\n",
-        &[y - 7, g / 512],
-    );
-    let j = put_box(true, out, i, s.fill as u64, x, y, w, 20);
-    let k = put_box(0 < v, out, j, b'u' as u64, x, y + (20 - 2 * v), w, 2 * v);
-    put_only(
-        0 < s.label,
-        out,
-        k,
-        b"<text class=\"n\" x=\"$\" y=\"$\">$</text>\n",
-        &[x + 1, y + 13, s.label],
+        b"[<text x=\"17\" y=\"$\">chunk $</text>\n]\
+<rect class=\"~\" x=\"$\" y=\"$\" width=\"$\" height=\"20\"/>\n\
+[<rect class=\"u\" x=\"$\" y=\"$\" width=\"$\" height=\"$\"/>\n]\
+[<text class=\"n\" x=\"$\" y=\"$\">$</text>\n]",
+        &[
+            first, y - 7, g / 512, s.fill as u64, x, y, w, v, x, top, w, 2 * v, s.label, x + 1, y + 13, s.label,
+        ],
     )
 }
-
-// ---- either
 
 // A page.
 fn put_page(svg: bool, out: &mut [u8], at: usize, g: u64, s: cells::Cell) -> usize

@@ -2,16 +2,16 @@
 use Prim.Native.Nat.{ℕ, zero, suc, _+_, _-_, _/_, _%_, _^_, _≤_, _<_}
 use mathlib.Core.Path.{_≡_, refl, sym, ap, _∙_}
 use mathlib.Core.List.{List, [], _∷_, _++_}
-use mathlib.Core.Bool.{Bool, true, false, cond, _||_}
+use mathlib.Core.Bool.{Bool, true, false, cond}
 use native.Mathlib.Nat.{add-zero, add-suc, suc-add, pow-suc, eq-zero-or-pos}
 use native.Mathlib.Numerals.{add-one}
 use native.Mathlib.Omega.{arith}
 use mathlib.Core.Logic.{⊎-elim, _⊎_, inl, inr, _≢_}
 use borrow.Author.Tests.{lt-ltb, le-ltb, eq-eqb, ne-eqb}
-use lib.Dec.{eqb}
+use lib.Dec.{ltb}
 use lib.ListN.{length, drop, set, length-append, getD, drop-of-length-le}
-use lib.Seq.{sets, set-comm, drop-cons, length-sets}
-use Rattle.text.specs.Text.{digits, decimal, Appends, piece, rest, filled, pieceRoom, room, only}
+use lib.Seq.{sets, set-comm, drop-cons, length-sets, getD-drop, drop-drop}
+use Rattle.text.specs.Text.{digits, decimal, Appends, piece, takes, shows, only, filledFrom, filled, pieceRoom, room}
 
 -- ---- stores
 
@@ -116,92 +116,125 @@ digit-done o at i m h e =
 
 -- ---- templates
 
--- what was written for the byte b of a template, and the numbers that are left behind it
-abbrev pub Pieced : ℕ → List ℕ → ℕ → ℕ → List ℕ → List ℕ → ℕ → ℕ → Type 0
-Pieced b ns k k′ o o′ i j = (Appends o o′ i j (piece b (drop k ns))) × (drop k′ ns ≡ rest b (drop k ns)) × (j ≤ i + pieceRoom b)
+pub takes-open : (b : ℕ) → b ≡ 91 → (_≡_ {A = ℕ} 1 (takes b)) × (1 ≤ 1)
+unfolding takes
+takes-open b e = rw e (refl, omega arith)
 
-store-one : (o : List ℕ) (i x : ℕ) → Appends o (set o i x) i (i + 1) (x ∷ [])
-store-one o i x = record { next = refl; text = refl }
+pub takes-number : (b : ℕ) → b ≡ 36 → (_≡_ {A = ℕ} 1 (takes b)) × (1 ≤ 1)
+unfolding takes
+takes-number b e = rw e (refl, omega arith)
 
-piece-here : (b : ℕ) (ns : List ℕ) (k : ℕ) → k < length ns
-    → (piece b (drop k ns) ≡ cond (eqb b 36) (decimal (getD ns k 0)) (cond (eqb b 126) (getD ns k 0 % 256 ∷ []) (b ∷ [])))
-    × (rest b (drop k ns) ≡ cond (eqb b 36 || eqb b 126) (drop (k + 1) ns) (drop k ns))
-unfolding piece rest
-piece-here b ns k h = rw (add-one k, drop-cons ns k 0 h) (refl, refl)
+pub takes-byte : (b : ℕ) → b ≡ 126 → (_≡_ {A = ℕ} 1 (takes b)) × (1 ≤ 1)
+unfolding takes
+takes-byte b e = rw e (refl, omega arith)
 
-piece-last : (b : ℕ) (ns : List ℕ) → ns ≡ [] → (piece b ns ≡ b ∷ []) × (rest b ns ≡ [])
-unfolding piece rest
-piece-last b ns e = rw e (refl, refl)
+pub takes-none : (b : ℕ) → b ≢ 91 → b ≢ 36 → b ≢ 126 → (_≡_ {A = ℕ} 0 (takes b)) × (0 ≤ 1)
+unfolding takes
+takes-none b d e f = rw (ne-eqb b 91 d, ne-eqb b 36 e, ne-eqb b 126 f) (refl, omega arith)
 
-module _ (b : ℕ) (ns : List ℕ) (k : ℕ) {o : List ℕ} {i : ℕ} where
-  -- no number is left
-  pub piece-none : length ns ≤ k → Pieced b ns k k o (set o i b) i (i + 1)
-  piece-none h =
-      let e = drop-of-length-le ns {i = k} h in
-      let (p, q) = piece-last b (drop k ns) e in
-      (rw p (store-one o i b), rw q e, omega arith)
+module _ (v : Bool) (b n : ℕ) where
+  pub shows-open : b ≡ 91 → ltb 0 n ≡ shows v b n
+  unfolding shows
+  shows-open e = rw e
 
-  module _ (h : k < length ns) where
-    pub piece-number : b ≡ 36 → {o′ : List ℕ} {j : ℕ} → Appends o o′ i j (decimal (getD ns k 0)) → j ≤ i + 20 → Pieced b ns k (k + 1) o o′ i j
-    piece-number e w l = let (p, q) = piece-here b ns k h in rw (p, q, e) (w, refl, l)
+  pub shows-close : b ≡ 93 → true ≡ shows v b n
+  unfolding shows
+  shows-close e = rw e
 
-    pub piece-byte : b ≢ 36 → b ≡ 126 → Pieced b ns k (k + 1) o (set o i (getD ns k 0 % 256)) i (i + 1)
-    piece-byte d e = let (p, q) = piece-here b ns k h in rw (p, q, e) (store-one o i _, refl, omega arith)
+  pub shows-same : b ≢ 91 → b ≢ 93 → v ≡ shows v b n
+  unfolding shows
+  shows-same d e = rw (ne-eqb b 91 d, ne-eqb b 93 e)
 
-    pub piece-itself : b ≢ 36 → b ≢ 126 → Pieced b ns k k o (set o i b) i (i + 1)
-    piece-itself d e = let (p, q) = piece-here b ns k h in rw (p, q, ne-eqb b 36 d, ne-eqb b 126 e) (store-one o i b, refl, omega arith)
+-- ---- what a byte of a template writes
+
+abbrev pub Pieced : ℕ → ℕ → List ℕ → List ℕ → ℕ → ℕ → Type 0
+Pieced b n o o′ i j = (Appends o o′ i j (piece b n)) × (j ≤ i + pieceRoom b)
+
+pub room-one : (b : ℕ) → b ≢ 91 → b ≢ 93 → b ≢ 36 → pieceRoom b ≡ 1
+room-one b d e f = rw (ne-eqb b 91 d, ne-eqb b 93 e, ne-eqb b 36 f)
+
+module _ (b n : ℕ) {o : List ℕ} {i : ℕ} where
+  pub piece-open : b ≡ 91 → Pieced b n o o i i
+  unfolding piece
+  piece-open e = rw e (appends-none, omega arith)
+
+  pub piece-close : b ≡ 93 → Pieced b n o o i i
+  unfolding piece
+  piece-close e = rw e (appends-none, omega arith)
+
+  pub piece-number : b ≡ 36 → {o′ : List ℕ} {j : ℕ} → Appends o o′ i j (decimal n) → j ≤ i + 20 → Pieced b n o o′ i j
+  unfolding piece
+  piece-number e w l = rw e (w, l)
+
+  pub piece-byte : b ≡ 126 → Pieced b n o (set o i (n % 256)) i (i + 1)
+  unfolding piece
+  piece-byte e = rw e (record { next = refl; text = refl }, omega arith)
+
+  pub piece-itself : b ≢ 91 → b ≢ 93 → b ≢ 36 → b ≢ 126 → Pieced b n o (set o i b) i (i + 1)
+  unfolding piece
+  piece-itself d e f g = rw (ne-eqb b 91 d, ne-eqb b 93 e, ne-eqb b 36 f, ne-eqb b 126 g) (record { next = refl; text = refl }, omega arith)
+
+-- a byte that is not written counts as a bracket
+piece-seen : (v : Bool) (b n : ℕ) → piece (cond v b 93) n ≡ only v (piece b n)
+unfolding piece only
+piece-seen true b n = refl
+piece-seen false b n = refl
+
+room-seen : (v : Bool) (b : ℕ) → pieceRoom (cond v b 93) ≤ pieceRoom b
+room-seen true b = omega arith
+room-seen false b = omega arith
+
+-- ---- templates
 
 module _ (t : List ℕ) (i : ℕ) (l : i < length t) where
-  filled-step : (ns : List ℕ) → filled (drop i t) ns ≡ piece (getD t i 0) ns ++ filled (drop (i + 1) t) (rest (getD t i 0) ns)
-  unfolding filled
-  filled-step ns = rw (add-one i, drop-cons t i 0 l)
+  filled-step : (v : Bool) (ns : List ℕ) (k : ℕ)
+      → filledFrom v (drop i t) (drop k ns) ≡ only v (piece (getD t i 0) (getD ns k 0))
+      ++ filledFrom (shows v (getD t i 0) (getD ns k 0)) (drop (i + 1) t) (drop (k + takes (getD t i 0)) ns)
+  unfolding filledFrom
+  filled-step v ns k = rw (add-one i, drop-cons t i 0 l, getD-drop k ns 0 0, add-zero k, drop-drop (takes (getD t i 0)) k ns)
 
   room-step : room (drop i t) ≡ pieceRoom (getD t i 0) + room (drop (i + 1) t)
   room-step = rw (add-one i, drop-cons t i 0 l)
 
-filled-none : (t ns : List ℕ) (i : ℕ) → length t ≤ i → filled (drop i t) ns ≡ []
-unfolding filled
-filled-none t ns i h = rw (drop-of-length-le t {i = i} h)
+filled-none : (v : Bool) (t ns : List ℕ) (i : ℕ) → length t ≤ i → filledFrom v (drop i t) ns ≡ []
+unfolding filledFrom
+filled-none v t ns i h = rw (drop-of-length-le t {i = i} h)
 
 -- a template of which i bytes and k numbers are done: what is left, written from here, gives the whole
-pub record Filling (o₀ : List ℕ) (at : ℕ) (t ns o : List ℕ) (i j k : ℕ) : Type 0 where
-  pub text : sets o j (filled (drop i t) (drop k ns)) ≡ sets o₀ at (filled t ns)
-  pub next : j + length (filled (drop i t) (drop k ns)) ≡ at + length (filled t ns)
+pub record Filling (o₀ : List ℕ) (at : ℕ) (t ns o : List ℕ) (v : Bool) (i j k : ℕ) : Type 0 where
+  pub text : sets o j (filledFrom v (drop i t) (drop k ns)) ≡ sets o₀ at (filled t ns)
+  pub next : j + length (filledFrom v (drop i t) (drop k ns)) ≡ at + length (filled t ns)
   pub within : j + room (drop i t) ≤ at + room t
+  pub few : k ≤ i
   pub kept : length o ≡ length o₀
 
 module _ {o₀ : List ℕ} {at : ℕ} {t ns : List ℕ} where
-  pub filling-first : Filling o₀ at t ns o₀ 0 at 0
-  filling-first = record { text = refl; next = refl; within = omega arith; kept = refl }
+  pub filling-first : Filling o₀ at t ns o₀ true 0 at 0
+  filling-first = record { text = refl; next = refl; within = omega arith; few = omega arith; kept = refl }
 
-  module _ {o : List ℕ} {i j k : ℕ} (f : Filling o₀ at t ns o i j k) where
-    pub filling-room : i < length t → at + room t ≤ length o₀ → j + pieceRoom (getD t i 0) ≤ length o
-    filling-room l h = omega (arith, f .within, f .kept, room-step t i l)
-
-    pub filling-next : i < length t → {o′ : List ℕ} {j′ k′ : ℕ} → Pieced (getD t i 0) ns k k′ o o′ j j′ → Filling o₀ at t ns o′ (i + 1) j′ k′
-    filling-next l {o′} {j′} {k′} (w, q, h) =
-        let e = filled-step t i l (drop k ns) in
-        let p = piece (getD t i 0) (drop k ns) in
-        let u = filled (drop (i + 1) t) (rest (getD t i 0) (drop k ns)) in
-        record {
-          text = rw (q, w .text, w .next) (sym (sets-append o j p u) ∙ ap (sets o j) (sym e) ∙ f .text);
-          next = rw q (omega (arith, w .next, ap length e, length-append p u, f .next));
-          within = omega (arith, f .within, room-step t i l, h);
-          kept = appends-length w ∙ f .kept;
-        }
-
+  module _ {o : List ℕ} {v : Bool} {i j k : ℕ} (f : Filling o₀ at t ns o v i j k) where
     pub filling-done : length t ≤ i → (Appends o₀ o at j (filled t ns)) × (j ≤ at + room t)
     filling-done h =
-        let e = filled-none t (drop k ns) i h in
+        let e = filled-none v t (drop k ns) i h in
         (record { next = omega (arith, f .next, ap length e); text = ap (sets o j) (sym e) ∙ f .text }, omega (arith, f .within))
 
--- ---- texts by a test
+    module _ (l : i < length t) {b : ℕ} (e : b ≡ cond v (getD t i 0) 93) where
+      pub filling-room : at + room t ≤ length o₀ → j + pieceRoom b ≤ length o
+      filling-room h = rw e (omega (arith, f .within, f .kept, room-step t i l, room-seen v (getD t i 0)))
 
-module _ (v : Bool) (t : List ℕ) {a : List ℕ} {i : ℕ} where
-  pub only-here : v ≡ true → {b : List ℕ} {j : ℕ} → Appends a b i j t → Appends a b i j (only v t)
-  unfolding only
-  only-here e w = rw e w
-
-  pub only-else : v ≡ false → Appends a a i i (only v t)
-  unfolding only
-  only-else e = rw e appends-none
+      pub filling-next : {o′ : List ℕ} {v′ : Bool} {n m j′ : ℕ} → n ≡ getD ns k 0 → Pieced b n o o′ j j′ → v′ ≡ shows v (getD t i 0) n
+          → m ≡ takes (getD t i 0) → m ≤ 1 → Filling o₀ at t ns o′ v′ (i + 1) j′ (k + m)
+      filling-next {o′} {v′} {n} {m} {j′} g (w, h) x y z =
+          let p = only v (piece (getD t i 0) (getD ns k 0)) in
+          let u = filledFrom v′ (drop (i + 1) t) (drop (k + m) ns) in
+          let s : filledFrom v (drop i t) (drop k ns) ≡ p ++ u = rw (x, y, g) (filled-step t i l v ns k) in
+          let q : piece b n ≡ p = rw (e, g) (piece-seen v (getD t i 0) (getD ns k 0)) in
+          let a : Appends o o′ j j′ p = rw (← q) w in
+          let r : pieceRoom b ≤ pieceRoom (getD t i 0) = rw e (room-seen v (getD t i 0)) in
+          record {
+            text = rw (a .text, a .next) (sym (sets-append o j p u) ∙ ap (sets o j) (sym s) ∙ f .text);
+            next = omega (arith, a .next, ap length s, length-append p u, f .next);
+            within = omega (arith, f .within, room-step t i l, h, r);
+            few = omega (arith, f .few, z);
+            kept = appends-length a ∙ f .kept;
+          }

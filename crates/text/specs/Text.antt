@@ -2,10 +2,10 @@
 use Prim.Native.Nat.{ℕ, zero, suc, _+_, _/_, _%_}
 use mathlib.Core.Path.{_≡_}
 use mathlib.Core.List.{List, [], _∷_, _++_}
-use mathlib.Core.Bool.{Bool, cond, _||_}
+use mathlib.Core.Bool.{Bool, true, cond}
 use Prim.Native.Char.{code}
 use lib.Dec.{eqb, ltb}
-use lib.ListN.{length}
+use lib.ListN.{length, drop, getD}
 use lib.Seq.{sets}
 
 -- the decimal digits of n, the last one alone where no more than k steps are left
@@ -29,32 +29,38 @@ oneOf a m z = a ++ (decimal m ++ z)
 unfoldable pub twoOf : List ℕ → ℕ → List ℕ → ℕ → List ℕ → List ℕ
 twoOf a m b n z = a ++ (decimal m ++ oneOf b n z)
 
--- ---- templates: texts with places for numbers
+-- ---- Templates: texts with places for numbers. $ stands for the next number in decimal, ~ for the byte of that number; what stands
+-- between [ and ] is written only where the next number is not 0; any other byte stands for itself. A number that is missing is 0.
 
--- what the byte b of a template stands for, where ns are the numbers that are left: $ for the first of them in decimal, ~ for the byte
--- of that number, any other byte for itself
-unfoldable pub piece : ℕ → List ℕ → List ℕ
-piece b [] = b ∷ []
-piece b (n ∷ ns) = cond (eqb b (code "$")) (decimal n) (cond (eqb b (code "~")) (n % 256 ∷ []) (b ∷ []))
+-- what the byte b of a template writes, where n is the next number
+unfoldable pub piece : ℕ → ℕ → List ℕ
+piece b n =
+    cond (eqb b (code "[")) [] (cond (eqb b (code "]")) [] (cond (eqb b (code "$")) (decimal n) (cond (eqb b (code "~")) (n % 256 ∷ [])
+    (b ∷ []))))
 
--- the numbers that are left behind it
-unfoldable pub rest : ℕ → List ℕ → List ℕ
-rest b [] = []
-rest b (n ∷ ns) = cond (eqb b (code "$") || eqb b (code "~")) ns (n ∷ ns)
+-- how many numbers it takes
+unfoldable pub takes : ℕ → ℕ
+takes b = cond (eqb b (code "[")) 1 (cond (eqb b (code "$")) 1 (cond (eqb b (code "~")) 1 0))
+
+-- whether what follows it is written, where v says whether it is
+unfoldable pub shows : Bool → ℕ → ℕ → Bool
+shows v b n = cond (eqb b (code "[")) (ltb 0 n) (cond (eqb b (code "]")) true v)
+
+unfoldable pub only : Bool → List ℕ → List ℕ
+only v t = cond v t []
+
+unfoldable pub filledFrom : Bool → List ℕ → List ℕ → List ℕ
+filledFrom v [] ns = []
+filledFrom v (b ∷ t) ns = only v (piece b (getD ns 0 0)) ++ filledFrom (shows v b (getD ns 0 0)) t (drop (takes b) ns)
 
 -- the template t with the numbers ns in their places
-unfoldable pub filled : List ℕ → List ℕ → List ℕ
-filled [] ns = []
-filled (b ∷ t) ns = piece b ns ++ filled t (rest b ns)
+abbrev pub filled : List ℕ → List ℕ → List ℕ
+filled t ns = filledFrom true t ns
 
--- room that is enough for what b stands for, and for the whole, whatever the numbers
+-- room that is enough for what b writes, and for the whole, whatever the numbers
 abbrev pub pieceRoom : ℕ → ℕ
-pieceRoom b = 1 + cond (eqb b (code "$")) 19 0
+pieceRoom b = cond (eqb b (code "[")) 0 (cond (eqb b (code "]")) 0 (cond (eqb b (code "$")) 20 1))
 
 abbrev pub room : List ℕ → ℕ
 room [] = 0
 room (b ∷ t) = pieceRoom b + room t
-
--- a text that stands only where the test holds
-unfoldable pub only : Bool → List ℕ → List ℕ
-only v t = cond v t []

@@ -2,8 +2,9 @@
 // behind what it wrote.
 ghost use mathlib.Core.Path.{_≡_};
 ghost use Prim.Native.Nat.{_+_, _≤_, _<_};
-ghost use lib.ListN.{length, drop};
-ghost use Rattle.text.specs.Text.{decimal, Appends, oneOf, twoOf, piece, rest, filled, pieceRoom, room, only};
+ghost use lib.ListN.{length, getD};
+ghost use mathlib.Core.Bool.{cond};
+ghost use Rattle.text.specs.Text.{decimal, Appends, oneOf, twoOf, piece, takes, shows, filled, pieceRoom, room};
 
 // All of a text.
 pub fn put_text(out: &mut [u8], at: usize, text: &[u8]) -> usize
@@ -71,46 +72,75 @@ pub fn put_two(out: &mut [u8], at: usize, a: &[u8], m: u64, b: &[u8], n: u64, z:
     put_one(out, j, b, n, z)
 }
 
-// Where the next byte of a template goes, and which of its numbers is next.
-struct Place {
-    at: usize,
-    next: usize,
+// The number at index k, 0 where there is none.
+fn number_at(ns: &[u64], k: usize) -> u64
+    ensures { λ r. ⌜ r ≡ getD (now (ns .entry)) k 0 ⌝ }
+{
+    if k < ns.len() {
+        return ns[k];
+    }
+    0
 }
 
-// What one byte of a template stands for.
-fn put_piece(out: &mut [u8], p: Place, b: u8, ns: &[u64]) -> Place
-    requires { ⌜ p .at + pieceRoom b ≤ length (now out) ⌝ }
-    ensures { λ r. ⌜ (Appends (now (out .entry)) (now (out .exit)) (p .at) (r .at) (piece b (drop (p .next) (now (ns .entry)))))
-        × (drop (r .next) (now (ns .entry)) ≡ rest b (drop (p .next) (now (ns .entry)))) × (r .at ≤ p .at + pieceRoom b) ⌝ }
+// How many numbers a byte of a template takes.
+fn number_takes(b: u8) -> usize
+    ensures { λ r. ⌜ (r ≡ takes b) × (r ≤ 1) ⌝ }
 {
-    let at = p.at;
-    let k = p.next;
-    if ns.len() <= k {
-        out[at] = b;
-        return Place {
-            at: at + 1,
-            next: k,
-        };
+    if b == b'[' {
+        return 1;
     }
-    let n = ns[k];
     if b == b'$' {
-        return Place {
-            at: put_decimal(out, at, n),
-            next: k + 1,
-        };
+        return 1;
+    }
+    if b == b'~' {
+        return 1;
+    }
+    0
+}
+
+// Whether what follows it is written.
+fn shows_after(v: bool, b: u8, n: u64) -> bool
+    ensures { λ r. ⌜ r ≡ shows v b n ⌝ }
+{
+    if b == b'[' {
+        return 0 < n;
+    }
+    if b == b']' {
+        return true;
+    }
+    v
+}
+
+// A byte that is not written counts as a bracket.
+fn seen(v: bool, b: u8) -> u8
+    ensures { λ r. ⌜ r ≡ cond v b 93 ⌝ }
+{
+    if v {
+        return b;
+    }
+    b']'
+}
+
+// What a byte of a template writes.
+fn put_piece(out: &mut [u8], at: usize, b: u8, n: u64) -> usize
+    requires { ⌜ at + pieceRoom b ≤ length (now out) ⌝ }
+    ensures { λ r. ⌜ (Appends (now (out .entry)) (now (out .exit)) at r (piece b n)) × (r ≤ at + pieceRoom b) ⌝ }
+{
+    if b == b'[' {
+        return at;
+    }
+    if b == b']' {
+        return at;
+    }
+    if b == b'$' {
+        return put_decimal(out, at, n);
     }
     if b == b'~' {
         out[at] = (n % 256) as u8;
-        return Place {
-            at: at + 1,
-            next: k + 1,
-        };
+        return at + 1;
     }
     out[at] = b;
-    Place {
-        at: at + 1,
-        next: k,
-    }
+    at + 1
 }
 
 // A template with numbers in its places.
@@ -119,26 +149,17 @@ pub fn put_filled(out: &mut [u8], at: usize, t: &[u8], ns: &[u64]) -> usize
     ensures { λ r. ⌜ Appends (now (out .entry)) (now (out .exit)) at r (filled (now (t .entry)) (now (ns .entry))) ⌝ }
     ensures { λ r. ⌜ r ≤ at + room (now (t .entry)) ⌝ }
 {
-    let mut p = Place {
-        at: at,
-        next: 0,
-    };
+    let mut v = true;
+    let mut j = at;
+    let mut k = 0;
     let mut i = 0;
     while i < t.len() {
-        p = put_piece(out, p, t[i], ns);
+        let b = t[i];
+        let n = number_at(ns, k);
+        j = put_piece(out, j, seen(v, b), n);
+        v = shows_after(v, b, n);
+        k += number_takes(b);
         i += 1;
     }
-    p.at
-}
-
-// The same, only where the test holds.
-pub fn put_only(v: bool, out: &mut [u8], at: usize, t: &[u8], ns: &[u64]) -> usize
-    requires { ⌜ at + room (now t) ≤ length (now out) ⌝ }
-    ensures { λ r. ⌜ Appends (now (out .entry)) (now (out .exit)) at r (only v (filled (now (t .entry)) (now (ns .entry)))) ⌝ }
-    ensures { λ r. ⌜ r ≤ at + room (now (t .entry)) ⌝ }
-{
-    if v {
-        return put_filled(out, at, t, ns);
-    }
-    at
+    j
 }

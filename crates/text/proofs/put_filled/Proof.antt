@@ -8,19 +8,36 @@ use Rattle.text.proofs.put_filled.Statement.{statement}
 use Rattle.text.proofs.put_filled.Tie as tie
 
 abbrev Inv-loop : tie.InvT-loop
-Inv-loop out₀ at t ns p₀ i₀ out p i = (i ≤ length t) × Filling out₀ at t ns out i (p .at) (p .next)
+Inv-loop out₀ at t ns v₀ j₀ k₀ i₀ out v j k i = (i ≤ length t) × Filling out₀ at t ns out v i j k
 
 abbrev μ-loop : tie.MeasureT-loop
-μ-loop out₀ at t ns p₀ i₀ out p i = length t - i
+μ-loop out₀ at t ns v₀ j₀ k₀ i₀ out v j k i = length t - i
 
 loop-holds : tie.Need-loop-holds Inv-loop μ-loop
 loop-holds c = (omega arith, filling-first)
 
-shared-slice-read-put-piece : tie.Need-shared-slice-read-put-piece Inv-loop μ-loop
-shared-slice-read-put-piece c = search needs
+shared-slice-read-b : tie.Need-shared-slice-read-b Inv-loop μ-loop
+shared-slice-read-b c = search needs
+
+number-at-requires : tie.Need-number-at-requires Inv-loop μ-loop
+number-at-requires c κs = search needs
+
+seen-requires : tie.Need-seen-requires Inv-loop μ-loop
+seen-requires c κs = search needs
 
 put-piece-requires : tie.Need-put-piece-requires Inv-loop μ-loop
-put-piece-requires c κs = filling-room (c .before .before .before .loop .inv .1) (c .before .before .loop-test .taken) (c .before .before .before .before .before .before .before .pre)
+put-piece-requires c κs =
+    let t = c .before .before .before .before in
+    filling-room (t .before .loop .inv .1) (t .loop-test .taken) (c .seen .ensures) (t .before .before .before .before .before .pre)
+
+shows-after-requires : tie.Need-shows-after-requires Inv-loop μ-loop
+shows-after-requires c κs = search needs
+
+number-takes-requires : tie.Need-number-takes-requires Inv-loop μ-loop
+number-takes-requires c κs = search needs
+
+add-k : tie.Need-add-k Inv-loop μ-loop
+add-k c = search needs
 
 add-i : tie.Need-add-i Inv-loop μ-loop
 add-i c = search needs
@@ -30,8 +47,10 @@ loop-less c = search needs
 
 loop-again : tie.Need-loop-again Inv-loop μ-loop
 loop-again c =
-    let t = c .before .before .before .before .before in
-    (omega arith, filling-next (t .before .loop .inv .1) (t .loop-test .taken) (c .before .before .put-piece .ensures))
+    let p = c .before .before .before .before in
+    let t = p .before .before .before .before .before in
+    (omega arith, filling-next (t .before .loop .inv .1) (t .loop-test .taken) (p .before .seen .ensures) (p .before .before .before .number-at .ensures)
+        (p .put-piece .ensures) (c .before .shows-after .ensures) (c .number-takes .ensures .0) (c .number-takes .ensures .1))
 
 same-length : tie.Need-same-length Inv-loop μ-loop
 same-length c = c .before .loop .inv .1 .kept
@@ -46,8 +65,13 @@ put-filled-spec =
     Inv-loop
     μ-loop
     loop-holds
-    shared-slice-read-put-piece
+    shared-slice-read-b
+    number-at-requires
+    seen-requires
     put-piece-requires
+    shows-after-requires
+    number-takes-requires
+    add-k
     add-i
     loop-less
     loop-again
