@@ -50,14 +50,17 @@ svgCell =
     ++ ascii "[<rect class=\"u\" x=\"$\" y=\"$\" width=\"$\" height=\"$\"/>\n]"
     ++ ascii "[<text class=\"n\" x=\"$\" y=\"$\">$</text>\n]"
 
+-- its numbers, a line for each line of the template
 unfoldable pub svgPage : ℕ → Cell → List ℕ
 svgPage g s =
     let x = left g (s .joined) in
     let w = 15 + s .joined in
     let v = s .level in
     filled svgCell
-    (flag (eqb (g % 512) 0) ∷ (top g - 7) ∷ g / 512 ∷ s .fill ∷ x ∷ top g ∷ w ∷ v ∷ x ∷ (top g + (20 - 2 * v)) ∷ w ∷ 2 * v ∷ s .label
-    ∷ (x + 1) ∷ (top g + 13) ∷ s .label ∷ [])
+    (flag (eqb (g % 512) 0) ∷ (top g - 7) ∷ g / 512
+    ∷ s .fill ∷ x ∷ top g ∷ w
+    ∷ v ∷ x ∷ (top g + (20 - 2 * v)) ∷ w ∷ 2 * v
+    ∷ s .label ∷ (x + 1) ∷ (top g + 13) ∷ s .label ∷ [])
 
 -- the picture's size, and the fills: p paper, e page 0, f free, l large run, c class run, u its taken slots; labels are n. Orange and blue
 -- are told apart by most who see few colours, and fullness is a height

@@ -26,7 +26,12 @@ fn put_text_page(out: &mut [u8], at: usize, g: u64, s: cells::Cell) -> usize
 {
     let first = (g % 512 == 0) as u64;
     let last = (g % 64 == 63) as u64;
-    put_filled(out, at, b"[chunk $\n]~[\n]", &[first, g / 512, s.mark as u64, last])
+    put_filled(
+        out,
+        at,
+        b"[chunk $\n]~[\n]",
+        &[first, g / 512, s.mark as u64, last],
+    )
 }
 
 // A page as SVG.
@@ -40,7 +45,7 @@ fn put_svg_page(out: &mut [u8], at: usize, g: u64, s: cells::Cell) -> usize
     let y = 26 + 22 * (g / 64) + 28 * (g / 512);
     let w = 15 + s.joined;
     let v = s.level;
-    let top = y + (20 - 2 * v);
+    let bar = y + (20 - 2 * v);
     put_filled(
         out,
         at,
@@ -49,7 +54,22 @@ fn put_svg_page(out: &mut [u8], at: usize, g: u64, s: cells::Cell) -> usize
 [<rect class=\"u\" x=\"$\" y=\"$\" width=\"$\" height=\"$\"/>\n]\
 [<text class=\"n\" x=\"$\" y=\"$\">$</text>\n]",
         &[
-            first, y - 7, g / 512, s.fill as u64, x, y, w, v, x, top, w, 2 * v, s.label, x + 1, y + 13, s.label,
+            first,
+            y - 7,
+            g / 512,
+            s.fill as u64,
+            x,
+            y,
+            w,
+            v,
+            x,
+            bar,
+            w,
+            2 * v,
+            s.label,
+            x + 1,
+            y + 13,
+            s.label,
         ],
     )
 }

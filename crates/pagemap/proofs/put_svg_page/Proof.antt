@@ -32,14 +32,14 @@ add-y-2 c = search needs
 add-w : tie.Need-add-w
 add-w c = search needs
 
-mul-top : tie.Need-mul-top
-mul-top c = search needs
+mul-bar : tie.Need-mul-bar
+mul-bar c = search needs
 
-sub-top : tie.Need-sub-top
-sub-top c = search needs
+sub-bar : tie.Need-sub-bar
+sub-bar c = search needs
 
-add-top : tie.Need-add-top
-add-top c = search needs
+add-bar : tie.Need-add-bar
+add-bar c = search needs
 
 slice-aggregate-put-filled : tie.Need-slice-aggregate-put-filled
 slice-aggregate-put-filled c = search needs
@@ -85,9 +85,9 @@ put-svg-page-spec =
     mul-y-2
     add-y-2
     add-w
-    mul-top
-    sub-top
-    add-top
+    mul-bar
+    sub-bar
+    add-bar
     slice-aggregate-put-filled
     sub-t16
     cast-t12

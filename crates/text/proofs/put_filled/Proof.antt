@@ -48,9 +48,11 @@ loop-less c = search needs
 loop-again : tie.Need-loop-again Inv-loop μ-loop
 loop-again c =
     let p = c .before .before .before .before in
-    let t = p .before .before .before .before .before in
-    (omega arith, filling-next (t .before .loop .inv .1) (t .loop-test .taken) (p .before .seen .ensures) (p .before .before .before .number-at .ensures)
-        (p .put-piece .ensures) (c .before .shows-after .ensures) (c .number-takes .ensures .0) (c .number-takes .ensures .1))
+    let t = p .before .before .before .before .before in (
+      omega arith,
+      filling-next (t .before .loop .inv .1) (t .loop-test .taken) (p .before .seen .ensures) (p .before .before .before .number-at .ensures)
+          (p .put-piece .ensures) (c .before .shows-after .ensures) (c .number-takes .ensures .0) (c .number-takes .ensures .1),
+    )
 
 same-length : tie.Need-same-length Inv-loop μ-loop
 same-length c = c .before .loop .inv .1 .kept
