@@ -18,18 +18,9 @@ use Rattle.records.proofs.AdmitLaws.{refused, served}
 use Rattle.records.specs.Pool.{Pool}
 use Rattle.cells.specs.declared.Cell.{Cell}
 use Rattle.cells.specs.Cells.{noCell, cellAt}
-use Rattle.pagemap.specs.Drawing.{textPage, svgPage, headOf, pageOf, footOf, pagesFrom}
+use Rattle.pagemap.specs.Drawing.{headOf, pageOf, footOf, pagesFrom}
 use Rattle.pagemap.specs.Drawing.{headRoom, pageRoom, footRoom, roomFor, drawing, Shown, drawnAs, shown, showing, drawnOf}
 use Rattle.cells.proofs.CellLaws.{Shows}
-
--- ---- a page, as SVG or as text
-
-module _ {v : Bool} (g : ℕ) (s : Cell) {a b : List ℕ} {i j : ℕ} where
-  pub page-svg : v ≡ true → Appends a b i j (svgPage g s) → j ≤ i + 420 → (Appends a b i j (pageOf v g s)) × (j ≤ i + pageRoom v)
-  page-svg e w h = rw e (w, h)
-
-  pub page-text : v ≡ false → Appends a b i j (textPage g s) → j ≤ i + 29 → (Appends a b i j (pageOf v g s)) × (j ≤ i + pageRoom v)
-  page-text e w h = rw e (w, h)
 
 -- ---- the pages one after the other
 

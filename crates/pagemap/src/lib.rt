@@ -8,7 +8,7 @@ ghost use Rattle.records.specs.Pool.{pool};
 ghost use Rattle.records.specs.Calls.{admitOf};
 ghost use Rattle.text.specs.Text.{Appends};
 ghost use Rattle.cells.specs.Cells.{noCell};
-ghost use Rattle.pagemap.specs.Drawing.{textPage, svgPage, headOf, pageOf, footOf, pagesFrom};
+ghost use Rattle.pagemap.specs.Drawing.{svgPage, headOf, pageOf, footOf, pagesFrom};
 ghost use Rattle.pagemap.specs.Drawing.{headRoom, pageRoom, footRoom, roomFor, shown, showing, drawnOf};
 
 // The answer; C reads it as it is.
@@ -16,22 +16,6 @@ ghost use Rattle.pagemap.specs.Drawing.{headRoom, pageRoom, footRoom, ro
 pub struct Drawn {
     pub refusal: u64,
     pub length: u64,
-}
-
-// A page as text.
-fn put_text_page(out: &mut [u8], at: usize, g: u64, s: cells::Cell) -> usize
-    requires { ⌜ at + 29 ≤ length (now out) ⌝ }
-    ensures { λ r. ⌜ Appends (now (out .entry)) (now (out .exit)) at r (textPage g s) ⌝ }
-    ensures { λ r. ⌜ r ≤ at + 29 ⌝ }
-{
-    let first = (g % 512 == 0) as u64;
-    let last = (g % 64 == 63) as u64;
-    put_filled(
-        out,
-        at,
-        b"[chunk $\n]~[\n]",
-        &[first, g / 512, s.mark as u64, last],
-    )
 }
 
 // A page as SVG.
@@ -81,10 +65,16 @@ fn put_page(svg: bool, out: &mut [u8], at: usize, g: u64, s: cells::Cell) -> usi
     ensures { λ r. ⌜ r ≤ at + pageRoom svg ⌝ }
 {
     if svg {
-        put_svg_page(out, at, g, s)
-    } else {
-        put_text_page(out, at, g, s)
+        return put_svg_page(out, at, g, s);
     }
+    let first = (g % 512 == 0) as u64;
+    let last = (g % 64 == 63) as u64;
+    put_filled(
+        out,
+        at,
+        b"[chunk $\n]~[\n]",
+        &[first, g / 512, s.mark as u64, last],
+    )
 }
 
 // What stands before the pages.
