@@ -28,8 +28,12 @@ fn put_svg_page(out: &mut [u8], at: usize, g: u64, s: cells::Cell) -> usize
     let x = 17 + 16 * (g % 64) - s.joined;
     let y = 26 + 22 * (g / 64) + 28 * (g / 512);
     let w = 15 + s.joined;
-    let v = s.level;
-    let bar = y + (20 - 2 * v);
+    let h = 2 * s.level;
+    let bar = y + (20 - h);
+    let title = y - 7;
+    let left = x + 1;
+    let foot = y + 13;
+    let fill = s.fill as u64;
     put_filled(
         out,
         at,
@@ -39,20 +43,20 @@ fn put_svg_page(out: &mut [u8], at: usize, g: u64, s: cells::Cell) -> usize
 [<text class=\"n\" x=\"$\" y=\"$\">$</text>\n]",
         &[
             first,
-            y - 7,
+            title,
             g / 512,
-            s.fill as u64,
+            fill,
             x,
             y,
             w,
-            v,
+            s.level,
             x,
             bar,
             w,
-            2 * v,
+            h,
             s.label,
-            x + 1,
-            y + 13,
+            left,
+            foot,
             s.label,
         ],
     )
@@ -69,12 +73,8 @@ fn put_page(svg: bool, out: &mut [u8], at: usize, g: u64, s: cells::Cell) -> usi
     }
     let first = (g % 512 == 0) as u64;
     let last = (g % 64 == 63) as u64;
-    put_filled(
-        out,
-        at,
-        b"[chunk $\n]~[\n]",
-        &[first, g / 512, s.mark as u64, last],
-    )
+    let mark = s.mark as u64;
+    put_filled(out, at, b"[chunk $\n]~[\n]", &[first, g / 512, mark, last])
 }
 
 // What stands before the pages.
@@ -105,6 +105,7 @@ fn put_foot(svg: bool, out: &mut [u8], at: usize, c: u64, t: totals::Sums) -> us
     ensures { λ r. ⌜ r ≤ at + footRoom svg ⌝ }
 {
     if svg {
+        let y = 204 * c + 20;
         put_filled(
             out,
             at,
@@ -118,7 +119,7 @@ fn put_foot(svg: bool, out: &mut [u8], at: usize, c: u64, t: totals::Sums) -> us
 <rect class=\"u\" x=\"404\" y=\"6\" width=\"79\" height=\"14\"/>\n<text class=\"n\" x=\"405\" y=\"13\">320</text>\n\
 <text x=\"490\" y=\"15\">class runs with their slot size, filled as their slots are taken</text>\n\
 <text y=\"44\">$ live blocks, $ bytes given, $ free pages</text>\n</g>\n</svg>\n",
-            &[204 * c + 20, t.blocks, t.bytes, t.free],
+            &[y, t.blocks, t.bytes, t.free],
         )
     } else {
         put_filled(

@@ -6,14 +6,14 @@ use borrow.Author.Needs.{needs}
 use Rattle.pagemap.proofs.put_foot.Statement.{statement}
 use Rattle.pagemap.proofs.put_foot.Tie as tie
 
+mul-y : tie.Need-mul-y
+mul-y c = search needs
+
+add-y : tie.Need-add-y
+add-y c = search needs
+
 slice-aggregate-put-filled : tie.Need-slice-aggregate-put-filled
 slice-aggregate-put-filled c = search needs
-
-mul-t15 : tie.Need-mul-t15
-mul-t15 c = search needs
-
-add-t16 : tie.Need-add-t16
-add-t16 c = search needs
 
 slice-aggregate-put-filled-2 : tie.Need-slice-aggregate-put-filled-2
 slice-aggregate-put-filled-2 c = search needs
@@ -52,9 +52,9 @@ pub put-foot-spec : {M : Type 1} → statement M
 put-foot-spec =
     tie.close
     (tie.spec
+    mul-y
+    add-y
     slice-aggregate-put-filled
-    mul-t15
-    add-t16
     slice-aggregate-put-filled-2
     put-filled-requires
     slice-aggregate-put-filled-3

@@ -23,11 +23,11 @@ cast-first c = search needs
 cast-last : tie.Need-cast-last
 cast-last c = search needs
 
+cast-mark : tie.Need-cast-mark
+cast-mark c = search needs
+
 slice-aggregate-put-filled : tie.Need-slice-aggregate-put-filled
 slice-aggregate-put-filled c = search needs
-
-cast-t18 : tie.Need-cast-t18
-cast-t18 c = search needs
 
 slice-aggregate-put-filled-2 : tie.Need-slice-aggregate-put-filled-2
 slice-aggregate-put-filled-2 c = search needs
@@ -53,8 +53,8 @@ put-page-spec =
     returns
     cast-first
     cast-last
+    cast-mark
     slice-aggregate-put-filled
-    cast-t18
     slice-aggregate-put-filled-2
     put-filled-requires
     same-length-2

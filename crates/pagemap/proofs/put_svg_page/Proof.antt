@@ -32,8 +32,8 @@ add-y-2 c = search needs
 add-w : tie.Need-add-w
 add-w c = search needs
 
-mul-bar : tie.Need-mul-bar
-mul-bar c = search needs
+mul-h : tie.Need-mul-h
+mul-h c = search needs
 
 sub-bar : tie.Need-sub-bar
 sub-bar c = search needs
@@ -41,23 +41,20 @@ sub-bar c = search needs
 add-bar : tie.Need-add-bar
 add-bar c = search needs
 
+sub-title : tie.Need-sub-title
+sub-title c = search needs
+
+add-left : tie.Need-add-left
+add-left c = search needs
+
+add-foot : tie.Need-add-foot
+add-foot c = search needs
+
+cast-fill : tie.Need-cast-fill
+cast-fill c = search needs
+
 slice-aggregate-put-filled : tie.Need-slice-aggregate-put-filled
 slice-aggregate-put-filled c = search needs
-
-sub-t16 : tie.Need-sub-t16
-sub-t16 c = search needs
-
-cast-t12 : tie.Need-cast-t12
-cast-t12 c = search needs
-
-mul-t14 : tie.Need-mul-t14
-mul-t14 c = search needs
-
-add-t15 : tie.Need-add-t15
-add-t15 c = search needs
-
-add-t23 : tie.Need-add-t23
-add-t23 c = search needs
 
 slice-aggregate-put-filled-2 : tie.Need-slice-aggregate-put-filled-2
 slice-aggregate-put-filled-2 c = search needs
@@ -85,15 +82,14 @@ put-svg-page-spec =
     mul-y-2
     add-y-2
     add-w
-    mul-bar
+    mul-h
     sub-bar
     add-bar
+    sub-title
+    add-left
+    add-foot
+    cast-fill
     slice-aggregate-put-filled
-    sub-t16
-    cast-t12
-    mul-t14
-    add-t15
-    add-t23
     slice-aggregate-put-filled-2
     put-filled-requires
     same-length
