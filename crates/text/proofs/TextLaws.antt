@@ -7,7 +7,7 @@ use native.Mathlib.Nat.{add-zero, add-suc, suc-add, pow-suc, eq-zero-or-pos}
 use native.Mathlib.Numerals.{add-one}
 use native.Mathlib.Omega.{arith}
 use mathlib.Core.Logic.{⊎-elim, _⊎_, inl, inr, _≢_}
-use borrow.Author.Tests.{lt-ltb, le-ltb, eq-eqb, ne-eqb}
+use borrow.Author.Tests.{lt-ltb, le-ltb, ne-eqb}
 use lib.Dec.{ltb}
 use lib.ListN.{length, drop, set, length-append, getD, drop-of-length-le}
 use lib.Seq.{sets, set-comm, drop-cons, length-sets, getD-drop, drop-drop}
@@ -96,12 +96,6 @@ decimal-short (suc k) n h =
     (lt-or-ge n 10)
 
 -- ---- the loops
-
-pub text-turn : (o : List ℕ) (at i : ℕ) (t : List ℕ) → i < length t → sets (set o (at + i) (getD t i 0)) (at + (i + 1)) (drop (i + 1) t) ≡ sets o (at + i) (drop i t)
-text-turn o at i t h = rw (add-one i, add-suc at i, drop-cons t i 0 h)
-
-pub text-done : (o : List ℕ) (at i : ℕ) (t : List ℕ) → length t ≤ i → sets o (at + i) (drop i t) ≡ o
-text-done o at i t h = rw (drop-of-length-le t {i = i} h)
 
 -- the last digit of m is stored; those in front are left
 pub digit-turn : (o : List ℕ) (at i m : ℕ) → 10 ≤ m → i + 1 ≡ at + length (decimal m) → sets (set o i (48 + m % 10)) at (decimal (m / 10)) ≡ sets o at (decimal m)

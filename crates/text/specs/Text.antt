@@ -22,13 +22,6 @@ pub record Appends (before after : List ℕ) (i j : ℕ) (t : List ℕ) : Type 0
   pub next : j ≡ i + length t
   pub text : after ≡ sets before i t
 
--- words with numbers between them
-unfoldable pub oneOf : List ℕ → ℕ → List ℕ → List ℕ
-oneOf a m z = a ++ (decimal m ++ z)
-
-unfoldable pub twoOf : List ℕ → ℕ → List ℕ → ℕ → List ℕ → List ℕ
-twoOf a m b n z = a ++ (decimal m ++ oneOf b n z)
-
 -- ---- Templates: texts with places for numbers. $ stands for the next number in decimal, ~ for the byte of that number; what stands
 -- between [ and ] is written only where the next number is not 0; any other byte stands for itself. A number that is missing is 0.
 

@@ -4,20 +4,7 @@ ghost use mathlib.Core.Path.{_≡_};
 ghost use Prim.Native.Nat.{_+_, _≤_, _<_};
 ghost use lib.ListN.{length, getD};
 ghost use mathlib.Core.Bool.{cond};
-ghost use Rattle.text.specs.Text.{decimal, Appends, oneOf, twoOf, piece, takes, shows, filled, pieceRoom, room};
-
-// All of a text.
-pub fn put_text(out: &mut [u8], at: usize, text: &[u8]) -> usize
-    requires { ⌜ at + length (now text) ≤ length (now out) ⌝ }
-    ensures { λ r. ⌜ Appends (now (out .entry)) (now (out .exit)) at r (now (text .entry)) ⌝ }
-{
-    let mut i = 0;
-    while i < text.len() {
-        out[at + i] = text[i];
-        i += 1;
-    }
-    at + i
-}
+ghost use Rattle.text.specs.Text.{decimal, Appends, piece, takes, shows, filled, pieceRoom, room};
 
 // How many decimal digits a number has.
 pub fn decimal_length(n: u64) -> usize
@@ -48,28 +35,6 @@ pub fn put_decimal(out: &mut [u8], at: usize, n: u64) -> usize
     }
     out[i] = 48 + m as u8;
     at + k
-}
-
-// A word and a number, with a closing word behind it.
-pub fn put_one(out: &mut [u8], at: usize, a: &[u8], m: u64, z: &[u8]) -> usize
-    requires { ⌜ at + (length (now a) + (20 + length (now z))) ≤ length (now out) ⌝ }
-    ensures { λ r. ⌜ Appends (now (out .entry)) (now (out .exit)) at r (oneOf (now (a .entry)) m (now (z .entry))) ⌝ }
-    ensures { λ r. ⌜ r ≤ at + (length (now (a .entry)) + (20 + length (now (z .entry)))) ⌝ }
-{
-    let i = put_text(out, at, a);
-    let j = put_decimal(out, i, m);
-    put_text(out, j, z)
-}
-
-// The same behind a word and a number.
-pub fn put_two(out: &mut [u8], at: usize, a: &[u8], m: u64, b: &[u8], n: u64, z: &[u8]) -> usize
-    requires { ⌜ at + (length (now a) + (20 + (length (now b) + (20 + length (now z))))) ≤ length (now out) ⌝ }
-    ensures { λ r. ⌜ Appends (now (out .entry)) (now (out .exit)) at r (twoOf (now (a .entry)) m (now (b .entry)) n (now (z .entry))) ⌝ }
-    ensures { λ r. ⌜ r ≤ at + (length (now (a .entry)) + (20 + (length (now (b .entry)) + (20 + length (now (z .entry)))))) ⌝ }
-{
-    let i = put_text(out, at, a);
-    let j = put_decimal(out, i, m);
-    put_one(out, j, b, n, z)
 }
 
 // The number at index k, 0 where there is none.

@@ -1,6 +1,5 @@
 -- `text::number_takes` meets its contract. Assumes nothing.
 use Rattle.text.proofs.TextLaws.{takes-open, takes-number, takes-byte, takes-none}
-use borrow.Author.Needs.{needs}
 use Rattle.text.proofs.number_takes.Statement.{statement}
 use Rattle.text.proofs.number_takes.Tie as tie
 

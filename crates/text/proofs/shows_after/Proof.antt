@@ -1,6 +1,5 @@
 -- `text::shows_after` meets its contract. Assumes nothing.
 use Rattle.text.proofs.TextLaws.{shows-open, shows-close, shows-same}
-use borrow.Author.Needs.{needs}
 use Rattle.text.proofs.shows_after.Statement.{statement}
 use Rattle.text.proofs.shows_after.Tie as tie
 
