@@ -52,26 +52,26 @@ PROVED = crates.txt $(shell find crates -name '*.rt' -o -name '*.antt')
 
 all: $(LIB) $(PROGRAM) build/map build/paint
 
+# What the prover says goes to a file, and to the terminal where it fails.
+prove = @mkdir -p build; echo 'rt $(1): see build/$(notdir $@).log' >&2; \
+	rt $(1) >build/$(notdir $@).log 2>&1 || { cat build/$(notdir $@).log; exit 1; }
+
 build/liblensember.a: $(PROVED)
-	rt staticlib lensember
-	@mkdir -p $(@D)
+	$(call prove,staticlib lensember)
 	cp target/staticlib/liblensember.a $@
 
 # The programs come after the archive, and one after the other: rt runs once at
 # a time.
 build/replay: $(PROVED) | $(LIB)
-	rt check replayer
-	@mkdir -p $(@D)
+	$(call prove,check replayer)
 	cp target/bin/replayer $@
 
 build/map: $(PROVED) | $(PROGRAM)
-	rt check mapper
-	@mkdir -p $(@D)
+	$(call prove,check mapper)
 	cp target/bin/mapper $@
 
 build/paint: $(PROVED) | build/map
-	rt check painter
-	@mkdir -p $(@D)
+	$(call prove,check painter)
 	cp target/bin/painter $@
 
 build/%.o: %.c $(HEADERS) Makefile
