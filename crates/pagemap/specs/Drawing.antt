@@ -5,6 +5,7 @@ use Prim.Native.Nat.{ℕ, zero, suc, _+_, _-_, _*_, _/_, _%_}
 use lib.Dec.{eqb, ltb}
 use lib.ListN.{length}
 use lib.Seq.{sets}
+use Rattle.bitrow.specs.Row.{digit}
 use Rattle.records.specs.Pool.{Pool}
 use Rattle.records.specs.Calls.{admitOf, unless}
 use Rattle.totals.specs.declared.Sums.{Sums}
@@ -15,15 +16,10 @@ use Rattle.cells.specs.declared.Cell.{Cell}
 use Rattle.cells.specs.Cells.{noCell, cellAt}
 use Rattle.pagemap.specs.declared.Drawn.{Drawn}
 
--- 1 where the test holds
-abbrev pub flag : Bool → ℕ
-flag true = 1
-flag false = 0
-
 -- ---- as text: for each chunk a line and 8 rows of 64 characters, one a page; then what they say, and the totals
 
 unfoldable pub textPage : ℕ → Cell → List ℕ
-textPage g s = filled (ascii "[chunk $\n]~[\n]") (flag (eqb (g % 512) 0) ∷ g / 512 ∷ s .mark ∷ flag (eqb (g % 64) 63) ∷ [])
+textPage g s = filled (ascii "[chunk $\n]~[\n]") (digit (eqb (g % 512) 0) ∷ g / 512 ∷ s .mark ∷ digit (eqb (g % 64) 63) ∷ [])
 
 abbrev pub textFoot : List ℕ
 textFoot =
@@ -56,7 +52,7 @@ svgPage g s =
     let w = 15 + s .joined in
     let v = s .level in
     filled svgCell
-    (flag (eqb (g % 512) 0) ∷ (top g - 7) ∷ g / 512
+    (digit (eqb (g % 512) 0) ∷ (top g - 7) ∷ g / 512
     ∷ s .fill ∷ x ∷ top g ∷ w
     ∷ v ∷ x ∷ (top g + (20 - 2 * v)) ∷ w ∷ 2 * v
     ∷ s .label ∷ (x + 1) ∷ (top g + 13) ∷ s .label ∷ [])
