@@ -1,13 +1,13 @@
 -- Blocks written into a room one after the other. Assumes nothing.
 use mathlib.Core.Path.{_≡_, refl, sym, ap, ap₂, _∙_, subst}
 use mathlib.Core.List.{List, [], _∷_, _++_}
-use Prim.Native.Nat.{ℕ, suc, _+_, _*_, _≤_}
-use native.Mathlib.Nat.{add-zero}
+use Prim.Native.Nat.{ℕ, _+_, _*_, _≤_}
 use native.Mathlib.Numerals.{add-one}
 use native.Mathlib.Omega.{arith}
 use lib.ListN.{length, set, drop, length-append}
-use lib.Seq.{sets, sets-eq, length-sets}
+use lib.Seq.{sets, sets-eq}
 use Rattle.blocks.specs.Blocks.{block, Block}
+use Rattle.text.proofs.TextLaws.{sets-append, appends-none, appends-length}
 use Rattle.census.specs.Census.{wordsFor}
 use Rattle.census.specs.Writes.{Wrote}
 
@@ -21,12 +21,6 @@ unfolding wordsFor
 length-words [] = refl
 length-words (b ∷ l) = let h = length-words l in omega arith
 
-sets-append : (l : List ℕ) (i : ℕ) (a v : List ℕ) → sets l i (a ++ v) ≡ sets (sets l i a) (i + length a) v
-sets-append l i [] v = ap (λ (k : ℕ). sets l k v) (sym (add-zero i))
-sets-append l i (x ∷ a) v =
-    let e : suc i + length a ≡ i + suc (length a) = omega arith in
-    sets-append (set l i x) (suc i) a v ∙ ap (λ (k : ℕ). sets (sets (set l i x) (suc i) a) k v) e
-
 -- ---- one block, none
 
 pub wrote-block : (room : List ℕ) (i : ℕ) (a z place size : ℕ) → a ≡ place → z ≡ size
@@ -35,12 +29,12 @@ unfolding wordsFor
 wrote-block room i a z place size e f =
     record {
       next = refl;
-      there = ap (λ (k : ℕ). set (set room i a) k z) (add-one i) ∙ ap₂ (λ (x y : ℕ). sets room i (x ∷ y ∷ [])) e f;
+      text = ap (λ (k : ℕ). set (set room i a) k z) (add-one i) ∙ ap₂ (λ (x y : ℕ). sets room i (x ∷ y ∷ [])) e f;
     }
 
 pub wrote-none : (room : List ℕ) (i : ℕ) (l : List Block) → l ≡ [] → Wrote room room i i l
 unfolding wordsFor
-wrote-none room i l e = subst (Wrote room room i i) (sym e) (record { next = sym (add-zero i); there = refl })
+wrote-none room i l e = subst (Wrote room room i i) (sym e) appends-none
 
 pub wrote-as : {after before : List ℕ} {r i : ℕ} {l m : List Block} → Wrote after before r i l → l ≡ m → Wrote after before r i m
 wrote-as {after} {before} {r} {i} w e = subst (Wrote after before r i) e w
@@ -70,15 +64,14 @@ module _ {before : List ℕ} {i : ℕ} {whole : List Block} {room : List ℕ} {k
       let a = v .next in
       let b = w .ends in
       let m : length rest ≡ length l + length later = ap length e ∙ length-append l later in
-      let q : r ≡ k + length (wordsFor l) = omega arith in
       record {
         goes =
-            ap₂ (λ (x : List ℕ) (j : ℕ). sets x j (wordsFor later)) (v .there) q
+            ap₂ (λ (x : List ℕ) (j : ℕ). sets x j (wordsFor later)) (v .text) (v .next)
             ∙ sym (sets-append room k (wordsFor l) (wordsFor later))
             ∙ ap (sets room k) (sym (words-append l later) ∙ ap wordsFor (sym e))
             ∙ w .goes;
         ends = omega arith;
-        long = ap length (v .there) ∙ length-sets room k (wordsFor l) ∙ w .long;
+        long = appends-length v ∙ w .long;
       }
 
   -- there is room for the next of them
@@ -95,7 +88,7 @@ module _ {before : List ℕ} {i : ℕ} {whole : List Block} {room : List ℕ} {k
   writing-all w e =
       let b = w .ends in
       let m : length rest ≡ 0 = ap length e in
-      record { next = omega arith; there = sym (ap (λ (l : List Block). sets room k (wordsFor l)) e) ∙ w .goes }
+      record { next = omega (arith, length-words whole); text = sym (ap (λ (l : List Block). sets room k (wordsFor l)) e) ∙ w .goes }
 
 -- ---- all of them, from the first word on
 

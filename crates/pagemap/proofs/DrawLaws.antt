@@ -6,8 +6,7 @@ use mathlib.Core.List.{List, [], _++_, append-assoc, append-nil}
 use Prim.Native.Nat.{ℕ, suc, _+_, _-_, _*_, _≤_, _<_}
 use native.Mathlib.Nat.{mul-suc}
 use native.Mathlib.Omega.{arith}
-use lib.ListN.{length, take}
-use lib.Seq.{length-take-le}
+use lib.ListN.{length}
 use Rattle.text.specs.Text.{Appends}
 use Rattle.text.proofs.TextLaws.{appends-none, appends-more, appends-length}
 use Rattle.totals.specs.declared.Sums.{Sums}
@@ -122,7 +121,3 @@ module _ (v : Bool) (c : ℕ) (p : Pool) (out : List ℕ) {n : ℕ} (e : n ≡ a
     draw-whole h k =
         k ∙ sym (cond-nlt (length out) (roomFor v c) (shown (drawnAs 7 0) out) (showing v c p out) h)
         ∙ served (admitOf c p) n (λ r. shown (drawnAs r 0) out) _ e z
-
--- what `&out[..n]` asks
-pub counted : (n : ℕ) (l : List ℕ) → n ≤ length l → (n ≤ length l) × (n ≡ length (take n l))
-counted n l h = (h, sym (length-take-le n l h))

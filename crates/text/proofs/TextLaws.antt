@@ -3,14 +3,15 @@ use Prim.Native.Nat.{ℕ, zero, suc, _+_, _-_, _/_, _%_, _^_, _≤_, _<_}
 use mathlib.Core.Path.{_≡_, refl, sym, ap, _∙_}
 use mathlib.Core.List.{List, [], _∷_, _++_}
 use mathlib.Core.Bool.{Bool, true, false, cond}
-use native.Mathlib.Nat.{add-zero, add-suc, suc-add, pow-suc, eq-zero-or-pos}
+use native.Mathlib.Nat.{add-zero, add-suc, suc-add, pow-suc}
 use native.Mathlib.Numerals.{add-one}
+use native.Mathlib.Decide.{decLt}
 use native.Mathlib.Omega.{arith}
-use mathlib.Core.Logic.{⊎-elim, _⊎_, inl, inr, _≢_}
+use mathlib.Core.Logic.{by-cases, _≢_}
 use borrow.Author.Tests.{lt-ltb, le-ltb, ne-eqb}
 use lib.Dec.{ltb}
-use lib.ListN.{length, drop, set, length-append, getD, drop-of-length-le}
-use lib.Seq.{sets, set-comm, drop-cons, length-sets, getD-drop, drop-drop}
+use lib.ListN.{length, drop, set, length-append, getD, drop-of-length-le, take}
+use lib.Seq.{sets, set-comm, drop-cons, length-sets, getD-drop, drop-drop, length-take-le}
 use Rattle.text.specs.Text.{digits, decimal, Appends, piece, takes, shows, only, filledFrom, filled, pieceRoom, room}
 
 -- ---- stores
@@ -43,10 +44,11 @@ appends-more {a} {b} {c} {i} {j} {k} {t} {u} w v =
 pub appends-length : {a b : List ℕ} {i j : ℕ} {t : List ℕ} → Appends a b i j t → length b ≡ length a
 appends-length {a} {b} {i} {j} {t} w = ap length (w .text) ∙ length-sets a i t
 
--- ---- decimal numbers
+-- what `&out[..n]` asks of the text at the front of a buffer
+pub counted : (n : ℕ) (l : List ℕ) → n ≤ length l → (n ≤ length l) × (n ≡ length (take n l))
+counted n l h = (h, sym (length-take-le n l h))
 
-pub lt-or-ge : (m n : ℕ) → (m < n) ⊎ (n ≤ m)
-lt-or-ge m n = ⊎-elim (λ e. inr (omega arith)) (λ e. inl (omega arith)) (eq-zero-or-pos (n - m))
+-- ---- decimal numbers
 
 digits-small : (k n : ℕ) → n < 10 → digits k n ≡ (48 + n) ∷ []
 unfolding digits
@@ -62,10 +64,10 @@ digits-same : (k j n : ℕ) → n ≤ k → n ≤ j → digits k n ≡ digits j 
 digits-same zero j n h g = digits-small zero n (omega arith) ∙ sym (digits-small j n (omega arith))
 digits-same (suc k) zero n h g = digits-small (suc k) n (omega arith) ∙ sym (digits-small zero n (omega arith))
 digits-same (suc k) (suc j) n h g =
-    ⊎-elim
+    by-cases (decLt n 10)
     (λ s. digits-small (suc k) n s ∙ sym (digits-small (suc j) n s))
-    (λ b. digits-large k n b ∙ ap (λ (l : List ℕ). l ++ (48 + n % 10) ∷ []) (digits-same k j (n / 10) (omega arith) (omega arith)) ∙ sym (digits-large j n b))
-    (lt-or-ge n 10)
+    (λ s. let b : 10 ≤ n = omega arith in
+    digits-large k n b ∙ ap (λ (l : List ℕ). l ++ (48 + n % 10) ∷ []) (digits-same k j (n / 10) (omega arith) (omega arith)) ∙ sym (digits-large j n b))
 
 pub decimal-small : (n : ℕ) → n < 10 → decimal n ≡ (48 + n) ∷ []
 unfolding decimal
@@ -84,16 +86,14 @@ pub decimal-length-small : (n : ℕ) → n < 10 → length (decimal n) ≡ 1
 decimal-length-small n h = ap length (decimal-small n h)
 
 pub decimal-some : (n : ℕ) → 1 ≤ length (decimal n)
-decimal-some n = ⊎-elim (λ s. omega (arith, decimal-length-small n s)) (λ b. omega (arith, decimal-length-large n b)) (lt-or-ge n 10)
+decimal-some n = by-cases (decLt n 10) (λ s. omega (arith, decimal-length-small n s)) (λ s. omega (arith, decimal-length-large n (omega arith)))
 
 -- a number below ten to the power k + 1 has at most k + 1 digits
 pub decimal-short : (k n : ℕ) → n < 10 ^ suc k → length (decimal n) ≤ suc k
 decimal-short zero n h = omega (arith, decimal-length-small n h)
 decimal-short (suc k) n h =
-    ⊎-elim
-    (λ s. omega (arith, decimal-length-small n s))
-    (λ b. omega (arith, decimal-length-large n b, decimal-short k (n / 10) (omega (arith, pow-suc 10 (suc k)))))
-    (lt-or-ge n 10)
+    by-cases (decLt n 10) (λ s. omega (arith, decimal-length-small n s))
+    (λ s. omega (arith, decimal-length-large n (omega arith), decimal-short k (n / 10) (omega (arith, pow-suc 10 (suc k)))))
 
 -- ---- the loops
 
@@ -108,7 +108,7 @@ digit-done o at i m h e =
     let p : i ≡ at = omega (arith, decimal-length-small m h) in
     rw (p, decimal-small m h)
 
--- ---- templates
+-- ---- the marks of a template
 
 pub takes-open : (b : ℕ) → b ≡ 91 → (_≡_ {A = ℕ} 1 (takes b)) × (1 ≤ 1)
 unfolding takes

@@ -40,7 +40,7 @@ same-length : tie.Need-same-length Inv-loop μ-loop
 same-length c = c .before .loop .inv .3 .long
 
 returns : tie.Need-returns Inv-loop μ-loop
-returns c = writing-all (c .before .loop .inv .3) (from-over _ _ _ (omega arith)) .there
+returns c = writing-all (c .before .loop .inv .3) (from-over _ _ _ (omega arith)) .text
 
 pub write-pages-spec : {M : Type 1} → statement M
 write-pages-spec =
