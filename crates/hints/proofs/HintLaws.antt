@@ -20,13 +20,13 @@ use Rattle.records.specs.Pool.{Pool, pool, kindAt}
 use Rattle.records.specs.Calls.{admitOf, leaves}
 use Rattle.records.proofs.Flags.{flag-eq, lt-cases, le-cases}
 use Rattle.records.proofs.RunLaws.{class-at-low}
-use Rattle.records.proofs.AdmitLaws.{Shape, admitted, shaped-lengths, lengths-shaped}
+use Rattle.records.proofs.AdmitLaws.{Shape, admitted, shaped-lengths}
 use Rattle.gaps.specs.declared.Found.{Found}
 use Rattle.gaps.specs.declared.Found.the-variants.{At, Nothing}
 use Rattle.gaps.specs.Gaps.{findPages}
-use Rattle.blocks.specs.Stores.{putRun, putSlot, Good}
+use Rattle.blocks.specs.Stores.{putRun, putSlot}
 use Rattle.blocks.proofs.StoreLaws.{slot-kinds, slot-same}
-use Rattle.blocks.proofs.KeepLaws.{take-large, free-large, take-class}
+use Rattle.blocks.proofs.KeepLaws.{admit-good, take-large, free-large, take-class}
 use Rattle.reserve.specs.declared.Reserved.{Reserved}
 use Rattle.reserve.specs.declared.Plan.{Plan}
 use Rattle.reserve.specs.declared.Plan.the-variants.{Refuse, InRun, NewRun, NewLarge}
@@ -79,9 +79,6 @@ module _ (c : ℕ) (p : Pool) where
   unfolding plan
   plan-first n = le-cases (PlanFirst c p) n 3072 (λ h. slot-first (classFor n)) (λ h. large-first n)
 
-good : (c : ℕ) (p : Pool) → admitOf c p ≡ 0 → Good c p
-good c p ok = let a = admitted c p ok in record { shape = sym (lengths-shaped c _ _ _ (a .shape)); whole = a .whole }
-
 -- whether the run of class b at page g has a free slot, by its kind
 has-by : (p : Pool) (b g : ℕ) → kindAt p g ≡ Class b → ltb (freeSlot (p .slots) b g) (slots b) ≡ hasSlot p b g
 unfolding hasSlot
@@ -109,9 +106,9 @@ module _ (c : ℕ) (p : Pool) (ok : admitOf c p ≡ 0) (l : List ℕ) (h : Hints
   unfolding notedSlot behind
   new-run g b (bl, k) first =
       let few = shape .few in let i = k .inside in let n = k .some in
-      let f = take-class c p (good c p ok) g b bl (omega arith) (λ j x y. k .clear j x (omega arith)) in
+      let f = take-class c p (admit-good c p ok) g b bl (omega arith) (λ j x y. k .clear j x (omega arith)) in
       let q : Pool = putRun 1 p g (wordsOf (Class b)) in
-      let sq : Shape c q = shaped-lengths c _ _ _ (sym (f .shape) ∙ good c p ok .shape) in
+      let sq : Shape c q = shaped-lengths c _ _ _ (sym (f .shape) ∙ admit-good c p ok .shape) in
       let r : Pool = putSlot 1 q g 0 in
       let others : (d j : ℕ) → j < 512 * c → (b ≡ d → j ≢ g) → hasSlot p d j ≡ hasSlot r d j =
       λ d j x y. run-has f d j x (λ e. other-class b d (λ z. y z e))
@@ -123,7 +120,7 @@ module _ (c : ℕ) (p : Pool) (ok : admitOf c p ≡ 0) (l : List ℕ) (h : Hints
   new-large : (g n : ℕ) → PlanOk c p (NewLarge g n) → Hints c (perform p (NewLarge g n)) l
   new-large g n k =
       let i = k .inside in let m = k .some in let t = k .few in
-      let f = take-large c p (good c p ok) g (n - 1) (omega arith) (omega arith) (λ j x y. k .clear j x (omega arith)) in
+      let f = take-large c p (admit-good c p ok) g (n - 1) (omega arith) (omega arith) (λ j x y. k .clear j x (omega arith)) in
       same h (λ d j x. run-has f d j x (λ e. refl))
 
   performed : (x : Plan) → PlanOk c p x → PlanFirst c p x → Hints c (perform p x) (notedPlan (perform p x .slots) l x)
@@ -212,7 +209,7 @@ module _ (c : ℕ) (p : Pool) (ok : admitOf c p ≡ 0) (l : List ℕ) (h : Hints
   gave-run q g n k =
       let m = k .some in
       let r : suc (n - 1) ≡ n = omega arith in
-      let f = free-large c p (good c p ok) g (n - 1) (k .inside) (k .kind) in
+      let f = free-large c p (admit-good c p ok) g (n - 1) (k .inside) (k .kind) in
       subst (λ (z : ℕ). Hints c (putRun 0 p g (zeros z)) l) r (same h (λ d j x. sym (run-has f d j x (λ e. refl))))
 
   gave : (q : ℕ) (x : Spot) → There c p q x → Hints c (giveBack p x) (notedSpot l x)

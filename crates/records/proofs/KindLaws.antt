@@ -43,9 +43,6 @@ pub kind-free : kindOf false false 0 ≡ Free
 kind-free = cond-eq 0 0 Free Damaged refl
 
 -- the choices for a taken page that is not page 0, opened down to the one for words of these ranges
-high-word : (w : ℕ) → 0xC0000000 ≤ w → kindOf false true w ≡ Inner w
-high-word w h = cond-le 0xC0000000 w _ _ h
-
 class-word : (w : ℕ) → 0x80000000 ≤ w → w < 0xC0000000 → kindOf false true w ≡ cond (ltb w 0x8000001E) (Class (w - 0x80000000)) Damaged
 class-word w h l = cond-nle 0xC0000000 w _ _ l ∙ cond-le 0x80000000 w _ _ h
 
@@ -56,7 +53,7 @@ low-word : (w : ℕ) → w < 0x40000001 → kindOf false true w ≡ cond (eqb w 
 low-word w l = cond-nle 0xC0000000 w _ _ (omega arith) ∙ cond-nle 0x80000000 w _ _ (omega arith) ∙ cond-nle 0x40000001 w _ _ l
 
 pub kind-inner : (w : ℕ) → 0xC0000000 ≤ w → kindOf false true w ≡ Inner w
-kind-inner = high-word
+kind-inner w h = cond-le 0xC0000000 w _ _ h
 
 pub kind-zero : (w : ℕ) → w ≡ 0 → kindOf false true w ≡ Inner w
 kind-zero w e = low-word w (omega arith) ∙ cond-eq w 0 _ _ e
