@@ -5,7 +5,7 @@
 #                      build/paint together
 #   make test          the one test command: proofs, then the host tests
 #   make host-test     the host tests alone: damage, series, replays, seeds,
-#                      program, install, readme
+#                      program, maps, install, readme
 #   make program-test  of these program alone, which runs the replay program
 #   make long-test     random series only, COUNT calls of them (20,000,000), from
 #                      another SEED each time
@@ -103,7 +103,9 @@ REPLAYS_OBJECTS = $(patsubst %,build/tests/%.o,replays parts stage logs known dr
 FUZZED = readers logs twin draws pool book $(SHARED)
 FUZZ_SOURCES = fuzz/boundary.c $(patsubst %,tests/%.c,$(FUZZED))
 SEEDS_OBJECTS = build/fuzz/once.o build/fuzz/boundary.o $(patsubst %,build/tests/%.o,$(FUZZED))
-PROGRAM_OBJECTS = $(patsubst %,build/tests/%.o,program logs known drafts draws pool book groups model)
+PROGRAM_OBJECTS = $(patsubst %,build/tests/%.o,program child logs known drafts draws pool book groups model)
+MAPS_OBJECTS = $(patsubst %,build/tests/%.o,maps drawings markup child logs known drafts draws \
+	pool book groups model)
 PHP_OBJECTS = $(patsubst %,build/tests/%.o,php draws groups calls lent model pool book)
 BENCH_SHARED = build/bench/timing.o build/bench/or.o build/tests/model.o
 
@@ -119,6 +121,9 @@ build/replays: $(REPLAYS_OBJECTS) $(LIB)
 
 build/program: $(PROGRAM_OBJECTS)
 	$(CC) $(CFLAGS) $(PROGRAM_OBJECTS) -o $@
+
+build/maps: $(MAPS_OBJECTS)
+	$(CC) $(CFLAGS) $(MAPS_OBJECTS) -o $@
 
 build/seeds: $(SEEDS_OBJECTS) $(LIB)
 	$(CC) $(CFLAGS) $(SEEDS_OBJECTS) $(LIB) -o $@
@@ -150,12 +155,13 @@ build/editor: build/examples/editor.o $(LIB)
 test:
 	./test
 
-host-test: build/damage build/series build/replays build/seeds build/program all
+host-test: build/damage build/series build/replays build/seeds build/program build/maps all
 	build/damage
 	build/series
 	build/replays
 	build/seeds fuzz/seeds/*
 	build/program $(PROGRAM)
+	build/maps build/map build/paint
 	cmp docs/pagemap.svg crates/painter/stdout
 	CC='$(CC)' LIB='$(LIB)' PROGRAM='$(PROGRAM)' tests/install.sh
 	tests/readme.sh
@@ -228,5 +234,5 @@ clean:
 
 .PHONY: all test host-test program-test long-test php-test fuzz bench run map picture first editor
 .PHONY: install uninstall clean
-.PHONY: build/damage build/series build/replays build/seeds build/boundary build/php
+.PHONY: build/damage build/series build/replays build/maps build/seeds build/boundary build/php
 .PHONY: build/check build/calls build/replaying build/first build/editor

@@ -1,0 +1,50 @@
+/* Runs a program on a log as a child process, and keeps what it writes. */
+#ifndef CHILD_H
+#define CHILD_H
+
+#include <stdbool.h>
+#include <stddef.h>
+#include <stdint.h>
+
+/* "reads the first 16,384 bytes of standard input; the rest counts as missing" */
+enum { READ_AT_MOST = 16384, MOST_WRITTEN = 1 << 18 };
+
+/* Ends the tests where there is no such program to run. */
+void need_program(const char *path);
+
+/* How a log reaches the program: a file, or a pipe that a child fills in pieces. */
+struct feed {
+    const uint8_t *bytes;
+    size_t length;
+    size_t piece;   /* bytes a piece; 0: a file */
+    unsigned pause; /* microseconds between two pieces */
+    bool endless;   /* over and over again */
+};
+
+struct feed file_of(const uint8_t *bytes, size_t length);
+struct feed pieces_of(const uint8_t *bytes, size_t length, size_t piece, unsigned pause);
+size_t feed_read(const struct feed *feed); /* how many bytes of it the program reads */
+
+/* Where standard output goes. */
+enum sink { SINK_FILE, SINK_PIPE, SINK_FULL, SINK_CLOSED, SINK_BROKEN };
+
+struct ran {
+    bool ended; /* by itself, not by a signal */
+    int status; /* or the signal */
+    size_t nout, nerr;
+    char out[MOST_WRITTEN], err[MOST_WRITTEN];
+};
+
+/* Of the last run. */
+extern struct ran ran;
+
+/* Runs the program once; what came of it stands in `ran`. */
+void run_program(const char *path, const struct feed *feed, enum sink sink);
+
+/* No status is asked for: document 01 names none. */
+void expect_ended(const char *what, size_t number);
+
+/* Standard output, byte for byte, after a log of nlog bytes. */
+void expect_written(const char *bytes, size_t length, size_t nlog);
+
+#endif
