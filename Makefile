@@ -234,5 +234,5 @@ clean:
 
 .PHONY: all test host-test program-test long-test php-test fuzz bench run map picture first editor
 .PHONY: install uninstall clean
-.PHONY: build/damage build/series build/replays build/maps build/seeds build/boundary build/php
+.PHONY: build/damage build/series build/replays build/seeds build/boundary build/php
 .PHONY: build/check build/calls build/replaying build/first build/editor
