@@ -223,6 +223,15 @@ void expect_ended(const char *what, size_t number)
            ran.ended ? "status" : "signal", ran.status);
 }
 
+void expect_failure_told(const char *path, const struct feed *feed, enum sink sink)
+{
+    run_program(path, feed, sink);
+    expect_ended("log", feed->length);
+    expect(ran.nerr > 0, "log of %zu bytes: standard error is empty", feed->length);
+    expect(ran.nerr > 0 && ran.err[ran.nerr - 1] == '\n', "log of %zu bytes: no whole line",
+           feed->length);
+}
+
 /* How many bytes are the same from the first on. */
 static size_t alike(const char *lines, size_t length)
 {

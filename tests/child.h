@@ -44,6 +44,9 @@ void run_program(const char *path, const struct feed *feed, enum sink sink);
 /* No status is asked for: document 01 names none. */
 void expect_ended(const char *what, size_t number);
 
+/* Runs the program where its output fails: that is told on standard error, in whole lines. */
+void expect_failure_told(const char *path, const struct feed *feed, enum sink sink);
+
 /* Standard output, byte for byte, after a log of nlog bytes. */
 void expect_written(const char *bytes, size_t length, size_t nlog);
 

@@ -215,6 +215,18 @@ static void test_large_runs(const struct drawer *drawer)
     group_end();
 }
 
+static void test_failing_output(const struct drawer *drawer)
+{
+    static const enum sink sinks[] = {SINK_FULL, SINK_CLOSED, SINK_BROKEN};
+
+    group_begin(drawer->name, "failing-output");
+    for (size_t i = 0; i < COUNT(sinks); i++) {
+        struct feed feed = file_of(known_logs[0].bytes, known_logs[0].length);
+        expect_failure_told(drawer->path, &feed, sinks[i]);
+    }
+    group_end();
+}
+
 static void test_drawer(const struct drawer *drawer)
 {
     test_known_logs(drawer);
@@ -226,6 +238,7 @@ static void test_drawer(const struct drawer *drawer)
     test_spoilt_logs(drawer);
     test_other_counts(drawer);
     test_long_logs(drawer);
+    test_failing_output(drawer);
 }
 
 int main(int argc, char **argv)

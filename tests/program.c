@@ -291,10 +291,7 @@ static void expect_told(const char *name, enum sink sink)
     for (size_t i = 0; i < COUNT(logs); i++) {
         const struct known_log *log = &known_logs[logs[i]];
         struct feed feed = file_of(log->bytes, log->length);
-        run_program(path, &feed, sink);
-        expect_ended(log->name, log->length);
-        expect(ran.nerr > 0, "%s: standard error is empty", log->name);
-        expect(ran.nerr > 0 && ran.err[ran.nerr - 1] == '\n', "%s: no whole line", log->name);
+        expect_failure_told(path, &feed, sink);
     }
     group_end();
 }
