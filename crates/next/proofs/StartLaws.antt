@@ -3,7 +3,7 @@ use mathlib.Core.Path.{_≡_, refl, sym, ap, _∙_, subst}
 use mathlib.Core.Logic.{_≢_, by-cases}
 use mathlib.Core.Bool.{true}
 use mathlib.Core.Option.{Option·some-injective}
-use types.Run.{OneOf}
+use types.Run.{OneOf, miss}
 use denote.Enum.Declared.{tagOf}
 use Rattle.records.proofs.Kind.{the-type}
 use mathlib.Core.List.{List, [], _∷_, _++_, append-nil, append-assoc}
@@ -21,7 +21,7 @@ use Rattle.records.specs.Pool.{Pool, kindAt, slotAt}
 use Rattle.records.specs.Sound.{step, sound}
 use Rattle.records.specs.Calls.{admitOf}
 use Rattle.records.specs.Runs.{spanOf, InRun, LiesBy, Lies}
-use Rattle.records.proofs.KindLaws.{getD-inner, not-one-of}
+use Rattle.records.proofs.KindLaws.{getD-inner}
 use Rattle.records.proofs.WalkLaws.{walk, sound-walks}
 use Rattle.records.proofs.RunLaws.{walk-run, class-at-low, sound-runs}
 use Rattle.records.proofs.WordLaws.{page-edge}
@@ -144,11 +144,11 @@ others-alone {p} {g} {f} k h r = go k h (r .is) (r .by)
     made j e s a n = let x : j ≡ kindAt p g = e ∙ ap (kindAt p) s in record { alone = subst Alone x a; off = λ y. n (x ∙ y) }
 
     go : (j : Kind) → OneOf (1 ∷ 2 ∷ 3 ∷ 5 ∷ []) (tagOf the-type j) → j ≡ kindAt p f → LiesBy p g f j → Other p g
-    go Edge x e s = absurd (not-one-of 0 x (omega arith) (omega arith) (omega arith) (omega arith))
+    go Edge x e s = absurd (miss (1 ∷ 2 ∷ 3 ∷ 5 ∷ []) 0 tt x)
     go Free x e s = made Free e s tt (λ y. let z : _≡_ {A = ℕ} 0 1 = cc in omega arith)
     go Damaged x e s = made Damaged e s tt (λ y. let z : _≡_ {A = ℕ} 0 1 = cc in omega arith)
     go (Large n) x e s = made (Large n) e s tt (λ y. let z : _≡_ {A = ℕ} 0 1 = cc in omega arith)
-    go (Class b) x e s = absurd (not-one-of 4 x (omega arith) (omega arith) (omega arith) (omega arith))
+    go (Class b) x e s = absurd (miss (1 ∷ 2 ∷ 3 ∷ 5 ∷ []) 4 tt x)
     go (Inner w) x e s = made (Inner w) e (s .0) (s .1) (λ y. let z : _≡_ {A = ℕ} 0 1 = cc in omega arith)
 
 module _ (c : ℕ) (p : Pool) (ok : admitOf c p ≡ 0) (q : ℕ) where

@@ -1,9 +1,9 @@
 -- What the words that are written mean, and what a taken page that begins nothing is. Assumes nothing.
 use mathlib.Core.Path.{_≡_, refl, ap, _∙_}
-use mathlib.Core.Logic.{_≢_, inl, inr}
+use mathlib.Core.Logic.{_≢_}
 use mathlib.Core.Bool.{true, false, cond}
 use mathlib.Core.List.{[], _∷_}
-use types.Run.{OneOf}
+use types.Run.{OneOf, miss}
 use denote.Enum.Declared.{tagOf}
 use Rattle.records.proofs.Kind.{the-type}
 use Rattle.records.specs.declared.Kind.{Kind}
@@ -85,18 +85,11 @@ Bare (Large k) = ⊥
 Bare (Class b) = ⊥
 Bare (Inner w) = Unit {0}
 
--- one of four numbers
-pub not-one-of : {a b c d : ℕ} (n : ℕ) → OneOf (a ∷ b ∷ c ∷ d ∷ []) n → n ≢ a → n ≢ b → n ≢ c → n ≢ d → ⊥
-not-one-of n (inl e) x y z w = x e
-not-one-of n (inr (inl e)) x y z w = y e
-not-one-of n (inr (inr (inl e))) x y z w = z e
-not-one-of n (inr (inr (inr e))) x y z w = w e
-
 -- what a match tells where it has an arm each for the first pages of large runs and of class runs, and one for all other kinds
 pub others-bare : (k : Kind) → OneOf (0 ∷ 1 ∷ 2 ∷ 5 ∷ []) (tagOf the-type k) → Bare k
 others-bare Edge h = tt
 others-bare Free h = tt
 others-bare Damaged h = tt
-others-bare (Large k) h = not-one-of 3 h (omega arith) (omega arith) (omega arith) (omega arith)
-others-bare (Class b) h = not-one-of 4 h (omega arith) (omega arith) (omega arith) (omega arith)
+others-bare (Large k) h = miss (0 ∷ 1 ∷ 2 ∷ 5 ∷ []) 3 tt h
+others-bare (Class b) h = miss (0 ∷ 1 ∷ 2 ∷ 5 ∷ []) 4 tt h
 others-bare (Inner w) h = tt

@@ -110,17 +110,8 @@ digit-done o at i m h e =
 
 -- ---- the marks of a template
 
-pub takes-open : (b : ℕ) → b ≡ 91 → (_≡_ {A = ℕ} 1 (takes b)) × (1 ≤ 1)
-unfolding takes
-takes-open b e = rw e (refl, omega arith)
-
-pub takes-number : (b : ℕ) → b ≡ 36 → (_≡_ {A = ℕ} 1 (takes b)) × (1 ≤ 1)
-unfolding takes
-takes-number b e = rw e (refl, omega arith)
-
-pub takes-byte : (b : ℕ) → b ≡ 126 → (_≡_ {A = ℕ} 1 (takes b)) × (1 ≤ 1)
-unfolding takes
-takes-byte b e = rw e (refl, omega arith)
+pub takes-one : (m : ℕ) {b : ℕ} → takes m ≡ 1 → b ≡ m → (_≡_ {A = ℕ} 1 (takes b)) × (1 ≤ 1)
+takes-one m h e = (sym (ap takes e ∙ h), omega arith)
 
 pub takes-none : (b : ℕ) → b ≢ 91 → b ≢ 36 → b ≢ 126 → (_≡_ {A = ℕ} 0 (takes b)) × (0 ≤ 1)
 unfolding takes
@@ -148,13 +139,8 @@ pub room-one : (b : ℕ) → b ≢ 91 → b ≢ 93 → b ≢ 36 → pieceRoom b 
 room-one b d e f = rw (ne-eqb b 91 d, ne-eqb b 93 e, ne-eqb b 36 f)
 
 module _ (b n : ℕ) {o : List ℕ} {i : ℕ} where
-  pub piece-open : b ≡ 91 → Pieced b n o o i i
-  unfolding piece
-  piece-open e = rw e (appends-none, omega arith)
-
-  pub piece-close : b ≡ 93 → Pieced b n o o i i
-  unfolding piece
-  piece-close e = rw e (appends-none, omega arith)
+  pub piece-none : (m : ℕ) → piece m n ≡ [] → b ≡ m → Pieced b n o o i i
+  piece-none m h e = (rw (e, h) appends-none, omega arith)
 
   pub piece-number : b ≡ 36 → {o′ : List ℕ} {j : ℕ} → Appends o o′ i j (decimal n) → j ≤ i + 20 → Pieced b n o o′ i j
   unfolding piece

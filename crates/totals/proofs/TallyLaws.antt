@@ -1,6 +1,5 @@
 -- The number of live blocks and the sum of their sizes, page by page. Assumes nothing.
 use mathlib.Core.Path.{_≡_, refl, sym, ap, ap₂, _∙_}
-use mathlib.Core.Logic.{inl, inr}
 use mathlib.Core.Bool.{Bool, true, false}
 use mathlib.Core.List.{List, [], _∷_, _++_}
 use Prim.Native.Nat.{ℕ, zero, suc, _+_, _*_, _≤_, _<_}
@@ -9,7 +8,7 @@ use native.Mathlib.Omega.{arith}
 use lib.Dec.{eqb}
 use lib.ListN.{length, getD, length-append}
 use borrow.Author.Tests.{eq-eqb, ne-eqb}
-use types.Run.{OneOf}
+use types.Run.{OneOf, miss}
 use denote.Enum.Declared.{tagOf}
 use Rattle.bitrow.specs.Row.{digit, bitAt, isSet, countBits}
 use Rattle.bitrow.proofs.Rows.{bit-at-le}
@@ -138,11 +137,7 @@ others-zero Edge h = refl
 others-zero Free h = refl
 others-zero Damaged h = refl
 others-zero (Large k) h = refl
-others-zero (Class b) (inl e) = absurd (omega arith)
-others-zero (Class b) (inr (inl e)) = absurd (omega arith)
-others-zero (Class b) (inr (inr (inl e))) = absurd (omega arith)
-others-zero (Class b) (inr (inr (inr (inl e)))) = absurd (omega arith)
-others-zero (Class b) (inr (inr (inr (inr e)))) = absurd (omega arith)
+others-zero (Class b) h = absurd (miss (0 ∷ 1 ∷ 2 ∷ 3 ∷ 5 ∷ []) 4 tt h)
 others-zero (Inner w) h = refl
 
 module _ (p : Pool) (g : ℕ) where

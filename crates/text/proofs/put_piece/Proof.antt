@@ -1,17 +1,19 @@
 -- `text::put_piece` meets its contract. Assumes nothing.
-use mathlib.Core.Path.{ap}
+use mathlib.Core.Path.{refl, ap}
 use native.Mathlib.Omega.{arith}
-use Rattle.text.specs.Text.{pieceRoom}
-use Rattle.text.proofs.TextLaws.{piece-open, piece-close, piece-number, piece-byte, piece-itself, room-one}
+use Rattle.text.specs.Text.{piece, pieceRoom}
+use Rattle.text.proofs.TextLaws.{piece-none, piece-number, piece-byte, piece-itself, room-one}
 use borrow.Author.Needs.{needs}
 use Rattle.text.proofs.put_piece.Statement.{statement}
 use Rattle.text.proofs.put_piece.Tie as tie
 
 returns : tie.Need-returns
-returns c = piece-open _ _ (c .if1 .taken)
+unfolding piece
+returns c = piece-none _ _ 91 refl (c .if1 .taken)
 
 returns-2 : tie.Need-returns-2
-returns-2 c = piece-close _ _ (c .if2 .taken)
+unfolding piece
+returns-2 c = piece-none _ _ 93 refl (c .if2 .taken)
 
 put-decimal-requires : tie.Need-put-decimal-requires
 put-decimal-requires c κs = omega (arith, ap pieceRoom (c .before .if3 .taken))
