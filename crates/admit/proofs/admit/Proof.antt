@@ -25,11 +25,13 @@ pages-sound-requires c κs =
 
 returns-2 : tie.Need-returns-2
 returns-2 c =
-    admit-says _ _ _ _ false (c .before .before .before .is-shaped .ensures) (not-false _ (c .before .before .if1 .left)) (c .before .pages-sound .ensures) (not-true _ (c .if2 .taken))
+    admit-says _ _ _ _ false (c .before .before .before .is-shaped .ensures) (not-false _ (c .before .before .if1 .left))
+    (c .before .pages-sound .ensures) (not-true _ (c .if2 .taken))
 
 returns-3 : tie.Need-returns-3
 returns-3 c =
-    admit-says _ _ _ _ true (c .before .before .before .is-shaped .ensures) (not-false _ (c .before .before .if1 .left)) (c .before .pages-sound .ensures) (not-false _ (c .if2 .left))
+    admit-says _ _ _ _ true (c .before .before .before .is-shaped .ensures) (not-false _ (c .before .before .if1 .left))
+    (c .before .pages-sound .ensures) (not-false _ (c .if2 .left))
 
 pub admit-spec : {M : Type 1} → statement M
 admit-spec =

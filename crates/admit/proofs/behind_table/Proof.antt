@@ -44,7 +44,11 @@ loop-less : tie.Need-loop-less Inv-loop μ-loop
 loop-less c = search needs
 
 loop-again : tie.Need-loop-again Inv-loop μ-loop
-loop-again c = (omega arith, up-on _ _ _ _ (c .before .before .before .before .class-rows .ensures) refl (omega arith) (c .before .before .before .loop .inv .1))
+loop-again c = (
+  omega arith,
+  up-on _ _ _ _ (c .before .before .before .before .class-rows .ensures) refl (omega arith)
+      (c .before .before .before .loop .inv .1),
+)
 
 returns : tie.Need-returns Inv-loop μ-loop
 returns c = up-done (c .before .loop .inv .1) (omega arith)

@@ -42,7 +42,11 @@ loop-less c = search needs
 
 loop-again : tie.Need-loop-again Inv-loop μ-loop
 loop-again c =
-    (omega arith, freed-on _ _ _ (omega arith) (c .before .before .before .before .before .before .before .before .pre .1) (c .before .before .before .before .before .before .before .before .pre .2) (λ j. c .before .before .before .before .before .shared-slice-known3 .given j .fits) _ (c .before .before .any-slot .result) _ (c .before .before .before .before .loop .inv .1) (c .before .before .any-slot .ensures) (c .wide32 .ensures))
+    let d = c .before .before .before .before .before in let e = d .before .before .before in (
+      omega arith,
+      freed-on _ _ _ (omega arith) (e .pre .1) (e .pre .2) (λ j. d .shared-slice-known3 .given j .fits) _
+          (c .before .before .any-slot .result) _ (c .before .before .before .before .loop .inv .1) (c .before .before .any-slot .ensures) (c .wide32 .ensures),
+    )
 
 returns : tie.Need-returns Inv-loop μ-loop
 returns c = freed-done (c .before .loop .inv .1) (omega arith)

@@ -36,7 +36,9 @@ shared-slice-read-bw : tie.Need-shared-slice-read-bw Inv-loop μ-loop
 shared-slice-read-bw c = search needs
 
 loop-holds : tie.Need-loop-holds Inv-loop μ-loop
-loop-holds c = (omega arith, walked-start _ _ _ _ (c .before .before .before .before .before .before .before .pre .6) (c .before .before .edge-ok .ensures .0 (not-false _ (c .before .if1 .left))))
+loop-holds c =
+    let d = c .before .before .before .before .before .before .before in
+    (omega arith, walked-start _ _ _ _ (d .pre .6) (c .before .before .edge-ok .ensures .0 (not-false _ (c .before .if1 .left))))
 
 mul-g : tie.Need-mul-g Inv-loop μ-loop
 mul-g c = search needs
@@ -51,11 +53,15 @@ shared-slice-read-w : tie.Need-shared-slice-read-w Inv-loop μ-loop
 shared-slice-read-w c = search needs
 
 page-requires : tie.Need-page-requires Inv-loop μ-loop
-page-requires c κs = (omega arith, omega arith, c .before .before .before .before .before .before .before .before .before .before .pre .4, c .before .before .before .before .before .before .before .before .before .before .pre .5, c .before .before .loop .inv .1 .ready)
+page-requires c κs =
+    let d = c .before .before .before .before .before .before .before .before .before .before in
+    (omega arith, omega arith, d .pre .4, d .pre .5, c .before .before .loop .inv .1 .ready)
 
 returns-2 : tie.Need-returns-2 Inv-loop μ-loop
 returns-2 c =
-    walked-off (c .before .before .before .before .before .loop .inv .1) (omega arith) (λ j. c .before .before .before .before .before .before .before .before .before .before .shared-slice-known3 .given j .fits) (c .before .before .page .ensures) (not-true _ (c .if2 .taken))
+    let d = c .before .before .before .before .before in let e = d .before .before .before .before .before in
+    walked-off (d .loop .inv .1) (omega arith) (λ j. e .shared-slice-known3 .given j .fits) (c .before .before .page .ensures) (not-true _
+    (c .if2 .taken))
 
 add-p : tie.Need-add-p Inv-loop μ-loop
 add-p c = search needs
@@ -65,7 +71,11 @@ loop-less c = search needs
 
 loop-again : tie.Need-loop-again Inv-loop μ-loop
 loop-again c =
-    (omega arith, walked-on (c .before .before .before .before .before .before .loop .inv .1) (omega arith) (λ j. c .before .before .before .before .before .before .before .before .before .before .before .shared-slice-known3 .given j .fits) (c .before .before .before .page .ensures) (not-false _ (c .before .if2 .left)))
+    let d = c .before .before .before .before .before .before in let e = d .before .before .before .before .before in (
+      omega arith,
+      walked-on (d .loop .inv .1) (omega arith) (λ j. e .shared-slice-known3 .given j .fits)
+          (c .before .before .before .page .ensures) (not-false _ (c .before .if2 .left)),
+    )
 
 returns-3 : tie.Need-returns-3 Inv-loop μ-loop
 returns-3 c = walked-done (c .before .loop .inv .1) (omega arith)

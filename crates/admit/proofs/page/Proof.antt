@@ -16,7 +16,9 @@ wrong-requires-2 : tie.Need-wrong-requires-2
 wrong-requires-2 c κs = search needs
 
 returns-2 : tie.Need-returns-2
-returns-2 c = bit-is (not-false _ (c .before .before .if2 .left)) (no-inner _ _ _ _ _ _ _ _ _ (c .wrong2 .ensures) (c .before .before .before .if1 .taken) (c .before .if3 .taken))
+returns-2 c =
+    bit-is (not-false _ (c .before .before .if2 .left)) (no-inner _ _ _ _ _ _ _ _ _ (c .wrong2 .ensures)
+    (c .before .before .before .if1 .taken) (c .before .if3 .taken))
 
 any-slot-requires : tie.Need-any-slot-requires
 any-slot-requires c κs = search needs
@@ -29,8 +31,9 @@ sub-t18 c = search needs
 
 returns-3 : tie.Need-returns-3
 returns-3 c =
-    bit-is (not-false _ (c .before .before .before .if2 .left))
-    (is-inner _ _ _ _ _ _ _ (c .before .before .before .before .before .before .pre .4) (c .before .before .before .before .if1 .taken) (c .before .before .if3 .left) (c .before .any-slot .ensures) (c .after-word .ensures))
+    let d = c .before .before .before .before .before .before in
+    bit-is (not-false _ (c .before .before .before .if2 .left)) (is-inner _ _ _ _ _ _ _ (d .pre .4)
+    (c .before .before .before .before .if1 .taken) (c .before .before .if3 .left) (c .before .any-slot .ensures) (c .after-word .ensures))
 
 in-range-requires : tie.Need-in-range-requires
 in-range-requires c κs = search needs
@@ -41,7 +44,8 @@ wrong-requires-3 c κs = search needs
 returns-4 : tie.Need-returns-4
 returns-4 c =
     let r = c .before .before .before .in-range .ensures .0 (c .before .before .if4 .taken) in
-    bit-is (not-true _ (c .before .if5 .taken)) (no-free-word _ _ _ _ _ _ _ _ _ (c .wrong3 .ensures) (c .before .before .before .before .if1 .left) (omega arith))
+    bit-is (not-true _ (c .before .if5 .taken)) (no-free-word _ _ _ _ _ _ _ _ _ (c .wrong3 .ensures)
+    (c .before .before .before .before .if1 .left) (omega arith))
 
 sub-b : tie.Need-sub-b
 sub-b c = let r = c .before .before .in-range .ensures .0 (c .before .if4 .taken) in omega arith
@@ -65,21 +69,28 @@ add-t21 c = let r = c .before .before .before .before .in-range .ensures .0 (c .
 
 returns-5 : tie.Need-returns-5
 returns-5 c =
+    let d = c .before .before .before .before .before in let e = d .before .before in
     let r = c .before .before .before .before .in-range .ensures .0 (c .before .before .before .if4 .taken) in
-    bit-is (not-false _ (c .before .before .if5 .left))
-    (is-class _ _ _ _ _ _ _ (c .before .before .before .before .before .if1 .left) (r .0) (r .1) (c .before .before .before .before .before .before .before .pre .3 .at _ (omega arith)) (c .before .stray-slot .ensures))
+    bit-is (not-false _ (c .before .before .if5 .left)) (is-class _ _ _ _ _ _ _ (d .if1 .left) (r .0) (r .1) (e .pre .3 .at _ (omega
+    arith)) (c .before .stray-slot .ensures))
 
 wrong-requires-4 : tie.Need-wrong-requires-4
 wrong-requires-4 c κs = search needs
 
 returns-6 : tie.Need-returns-6
-returns-6 c = bit-is (not-true _ (c .before .before .if6 .taken)) (no-free-word _ _ _ _ _ _ _ _ _ (c .wrong4 .ensures) (c .before .before .before .before .before .if1 .left) (c .before .if7 .taken))
+returns-6 c =
+    let d = c .before .before .before .before .before in
+    bit-is (not-true _ (c .before .before .if6 .taken)) (no-free-word _ _ _ _ _ _ _ _ _ (c .wrong4 .ensures) (d .if1 .left)
+    (c .before .if7 .taken))
 
 any-slot-requires-2 : tie.Need-any-slot-requires-2
 any-slot-requires-2 c κs = search needs
 
 returns-7 : tie.Need-returns-7
-returns-7 c = bit-is (not-true _ (c .before .before .if6 .taken)) (is-free _ _ _ _ _ _ (c .before .before .before .before .before .if1 .left) (c .before .if7 .left) (c .any-slot2 .ensures))
+returns-7 c =
+    let d = c .before .before .before .before .before in
+    bit-is (not-true _ (c .before .before .if6 .taken)) (is-free _ _ _ _ _ _ (d .if1 .left) (c .before .if7 .left)
+    (c .any-slot2 .ensures))
 
 in-range-requires-2 : tie.Need-in-range-requires-2
 in-range-requires-2 c κs = search needs
@@ -92,16 +103,19 @@ sub-t27 c = let r = c .before .before .in-range2 .ensures .0 (c .before .if8 .ta
 
 returns-8 : tie.Need-returns-8
 returns-8 c =
+    let d = c .before .before .before .before .before .before in
     let r = c .before .before .in-range2 .ensures .0 (c .before .if8 .taken) in
-    bit-is (not-false _ (c .before .before .before .if6 .left)) (is-large _ _ _ _ _ _ (c .before .before .before .before .before .before .if1 .left) (r .0) (r .1) (c .any-slot3 .ensures))
+    bit-is (not-false _ (c .before .before .before .if6 .left)) (is-large _ _ _ _ _ _ (d .if1 .left) (r .0) (r .1)
+    (c .any-slot3 .ensures))
 
 wrong-requires-5 : tie.Need-wrong-requires-5
 wrong-requires-5 c κs = search needs
 
 returns-9 : tie.Need-returns-9
 returns-9 c =
-    bit-is (not-false _ (c .before .before .before .if6 .left))
-    (no-run _ _ _ _ _ _ _ _ _ (c .wrong5 .ensures) (c .before .before .before .before .before .before .if1 .left) (c .before .before .before .before .before .in-range .ensures .1 (c .before .before .before .before .if4 .left)) (c .before .before .in-range2 .ensures .1 (c .before .if8 .left)))
+    let d = c .before .before .before .before .before in let e = d .before in
+    bit-is (not-false _ (c .before .before .before .if6 .left)) (no-run _ _ _ _ _ _ _ _ _ (c .wrong5 .ensures) (e .if1 .left)
+    (d .in-range .ensures .1 (c .before .before .before .before .if4 .left)) (c .before .before .in-range2 .ensures .1 (c .before .if8 .left)))
 
 pub page-spec : {M : Type 1} → statement M
 page-spec =

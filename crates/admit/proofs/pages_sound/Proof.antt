@@ -25,10 +25,20 @@ loop-holds c = (omega arith, blocks-start _ _)
 
 block-requires : tie.Need-block-requires Inv-loop μ-loop
 block-requires c κs =
-    (omega arith, omega arith, omega arith, omega arith, c .before .before .before .before .before .mask-table .ensures, c .before .before .before .before .behind-table .ensures, c .before .before .before .loop .inv .1 .ready)
+    let d = c .before .before .before .before .before in (
+      omega arith,
+      omega arith,
+      omega arith,
+      omega arith,
+      d .mask-table .ensures,
+      c .before .before .before .before .behind-table .ensures,
+      c .before .before .before .loop .inv .1 .ready,
+    )
 
 returns : tie.Need-returns Inv-loop μ-loop
-returns c = blocks-off (c .before .before .before .before .before .before .loop .inv .1) (omega arith) (c .before .before .block .ensures) (not-true _ (c .if1 .taken))
+returns c =
+    let d = c .before .before .before .before .before .before in
+    blocks-off (d .loop .inv .1) (omega arith) (c .before .before .block .ensures) (not-true _ (c .if1 .taken))
 
 add-i : tie.Need-add-i Inv-loop μ-loop
 add-i c = search needs
@@ -37,7 +47,9 @@ loop-less : tie.Need-loop-less Inv-loop μ-loop
 loop-less c = search needs
 
 loop-again : tie.Need-loop-again Inv-loop μ-loop
-loop-again c = (omega arith, blocks-on (c .before .before .before .before .before .before .loop .inv .1) (omega arith) (c .before .before .block .ensures) (not-false _ (c .if1 .left)))
+loop-again c =
+    let d = c .before .before .before .before .before .before in
+    (omega arith, blocks-on (d .loop .inv .1) (omega arith) (c .before .before .block .ensures) (not-false _ (c .if1 .left)))
 
 returns-2 : tie.Need-returns-2 Inv-loop μ-loop
 returns-2 c = blocks-done (c .before .loop .inv .1) (omega arith)

@@ -51,7 +51,14 @@ loop-less : tie.Need-loop-less Inv-loop μ-loop
 loop-less c = search needs
 
 loop-again : tie.Need-loop-again Inv-loop μ-loop
-loop-again c = let v = c .before .before .before .loop in (omega arith, v .inv .1, v .inv .2, stray-turn _ _ _ _ _ _ _ (v .acc) (v .inv .1) (v .inv .2) (c .before .before .before .before .pre .3) (c .before .before .before .before .pre .2) (omega arith) (c .before .shared-slice-known .given _ .fits) (v .inv .3))
+loop-again c =
+    let d = c .before .before .before .before in let v = c .before .before .before .loop in (
+      omega arith,
+      v .inv .1,
+      v .inv .2,
+      stray-turn _ _ _ _ _ _ _ (v .acc) (v .inv .1) (v .inv .2) (d .pre .3) (d .pre .2) (omega arith)
+          (c .before .shared-slice-known .given _ .fits) (v .inv .3),
+    )
 
 returns : tie.Need-returns Inv-loop μ-loop
 returns c = let v = c .before .loop in slots-done _ _ _ (v .j) (v .acc) (omega arith) (omega arith) (v .inv .3)

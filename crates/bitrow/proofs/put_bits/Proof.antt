@@ -67,7 +67,9 @@ same-length : tie.Need-same-length Inv-loop μ-loop
 same-length c = omega arith
 
 returns : tie.Need-returns Inv-loop μ-loop
-returns c = sym (put-bits-none (digit (c .before .before .before .args .v)) (c .before .loop .words) (c .before .loop .i) _ (omega arith)) ∙ c .before .loop .inv .3
+returns c =
+    sym (put-bits-none (digit (c .before .before .before .args .v)) (c .before .loop .words) (c .before .loop .i) _ (omega arith)) ∙
+    c .before .loop .inv .3
 
 pub put-bits-spec : {M : Type 1} → statement M
 put-bits-spec =

@@ -52,13 +52,18 @@ plain-cell-requires-4 : tie.Need-plain-cell-requires-4
 plain-cell-requires-4 c κs = search needs
 
 returns-4 : tie.Need-returns-4
-returns-4 c = shown _ _ _ (Large _) (c .before .before .before .before .before .kind-at .ensures) (c .before .before .before .k .given .1) (large-shown _ _ (c .before .wide64 .ensures) (c .plain-cell4 .ensures))
+returns-4 c =
+    let d = c .before .before .before .before .before in
+    shown _ _ _ (Large _) (d .kind-at .ensures) (c .before .before .before .k .given .1) (large-shown _ _ (c .before .wide64 .ensures)
+    (c .plain-cell4 .ensures))
 
 enum-known-k-2 : tie.Need-enum-known-k-2
 enum-known-k-2 c = search needs
 
 run-cell-requires : tie.Need-run-cell-requires
-run-cell-requires c κs = let s = admitted _ _ (c .before .before .before .before .before .before .before .pre .0) .shape in (class-at-low _ _ _ (sym (c .before .before .before .kind-at .ensures) ∙ c .before .k2 .given .1), omega arith, omega arith)
+run-cell-requires c κs =
+    let d = c .before .before .before .before .before .before .before in let s = admitted _ _ (d .pre .0) .shape in
+    (class-at-low _ _ _ (sym (c .before .before .before .kind-at .ensures) ∙ c .before .k2 .given .1), omega arith, omega arith)
 
 returns-5 : tie.Need-returns-5
 returns-5 c = shown _ _ _ (Class _) (c .before .before .before .before .kind-at .ensures) (c .before .before .k2 .given .1) (c .run-cell .ensures)
@@ -70,7 +75,10 @@ goes-on-requires : tie.Need-goes-on-requires
 goes-on-requires c κs = search needs
 
 returns-6 : tie.Need-returns-6
-returns-6 c = shown _ _ _ (Inner _) (c .before .before .before .kind-at .ensures) (c .before .enum-told4 .given .1) (behind-shown _ (c .before .before .before .before .before .before .before .pre .2) (c .goes-on .ensures))
+returns-6 c =
+    let d = c .before .before .before .before .before .before .before in
+    shown _ _ _ (Inner _) (c .before .before .before .kind-at .ensures) (c .before .enum-told4 .given .1) (behind-shown _ (d .pre .2)
+    (c .goes-on .ensures))
 
 pub page-cell-spec : {M : Type 1} → statement M
 page-cell-spec =

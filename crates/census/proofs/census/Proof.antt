@@ -17,7 +17,9 @@ same-length : tie.Need-same-length
 same-length c = search needs
 
 returns-2 : tie.Need-returns-2
-returns-2 c = census-served _ _ _ _ (c .before .before .before .before .before .admit .ensures) (c .before .before .before .before .if1 .left) (c .before .before .census-sound .ensures)
+returns-2 c =
+    let d = c .before .before .before .before .before in
+    census-served _ _ _ _ (d .admit .ensures) (c .before .before .before .before .if1 .left) (c .before .before .census-sound .ensures)
 
 pub census-spec : {M : Type 1} → statement M
 census-spec =

@@ -21,7 +21,9 @@ same-length : tie.Need-same-length
 same-length c = search needs
 
 returns-2 : tie.Need-returns-2
-returns-2 c = listed-all _ _ _ _ _ _ (c .before .before .before .before .before .before .live-count .ensures) (omega arith) (c .before .before .before .write-pages .ensures) (c .wide64 .ensures)
+returns-2 c =
+    let d = c .before .before .before .before .before .before in
+    listed-all _ _ _ _ _ _ (d .live-count .ensures) (omega arith) (c .before .before .before .write-pages .ensures) (c .wide64 .ensures)
 
 pub census-sound-spec : {M : Type 1} → statement M
 census-sound-spec =

@@ -18,34 +18,54 @@ enum-known-k : tie.Need-enum-known-k
 enum-known-k c = search needs
 
 write-slots-requires : tie.Need-write-slots-requires
-write-slots-requires c κs = let s = admitted _ _ (c .before .before .before .before .before .before .before .before .before .pre .0) .shape in (omega arith, omega arith, class-at-low _ _ _ (sym (c .before .before .before .before .kind-at .ensures) ∙ c .before .before .k .given .1), room-as _ _ (page-slots _ _ (c .before .before .before .before .kind-at .ensures) _ (c .before .before .k .given .1)) (c .before .before .before .before .before .before .before .before .before .pre .2))
+write-slots-requires c κs =
+    let d = c .before .before .before .before in let e = d .before .before .before .before .before in
+    let s = admitted _ _ (e .pre .0) .shape in (
+      omega arith,
+      omega arith,
+      class-at-low _ _ _ (sym (d .kind-at .ensures) ∙ c .before .before .k .given .1),
+      room-as _ _ (page-slots _
+          _ (d .kind-at .ensures) _ (c .before .before .k .given .1)) (e .pre .2),
+    )
 
 same-length : tie.Need-same-length
 same-length c = search needs
 
 returns : tie.Need-returns
-returns c = wrote-as (c .before .before .write-slots .ensures) (page-slots _ _ (c .before .before .before .before .before .before .before .kind-at .ensures) _ (c .before .before .before .before .before .k .given .1))
+returns c =
+    let d = c .before .before .before .before .before in let e = d .before .before in
+    wrote-as (c .before .before .write-slots .ensures) (page-slots _ _ (e .kind-at .ensures) _ (d .k .given .1))
 
 enum-known-k-2 : tie.Need-enum-known-k-2
 enum-known-k-2 c = search needs
 
 mul-write-block : tie.Need-mul-write-block
-mul-write-block c = let s = admitted _ _ (c .before .before .before .before .before .before .before .before .before .pre .0) .shape in record { fits = omega arith }
+mul-write-block c =
+    let d = c .before .before .before .before .before .before .before .before .before in let s = admitted _ _ (d .pre .0) .shape in
+    record { fits = omega arith }
 
 add-write-block : tie.Need-add-write-block
-add-write-block c = let m = large-at-low _ _ _ (sym (c .before .before .before .before .kind-at .ensures) ∙ c .before .before .k2 .given .1) in record { fits = omega arith }
+add-write-block c =
+    let m = large-at-low _ _ _ (sym (c .before .before .before .before .kind-at .ensures) ∙ c .before .before .k2 .given .1) in
+    record { fits = omega arith }
 
 mul-write-block-2 : tie.Need-mul-write-block-2
-mul-write-block-2 c = let m = large-at-low _ _ _ (sym (c .before .before .before .before .kind-at .ensures) ∙ c .before .before .k2 .given .1) in record { fits = omega arith }
+mul-write-block-2 c =
+    let m = large-at-low _ _ _ (sym (c .before .before .before .before .kind-at .ensures) ∙ c .before .before .k2 .given .1) in
+    record { fits = omega arith }
 
 write-block-requires : tie.Need-write-block-requires
-write-block-requires c κs = room-as _ _ (page-run _ _ (c .before .before .before .before .kind-at .ensures) _ (c .before .before .k2 .given .1)) (c .before .before .before .before .before .before .before .before .before .pre .2)
+write-block-requires c κs =
+    let d = c .before .before .before .before .before .before .before .before .before in
+    room-as _ _ (page-run _ _ (c .before .before .before .before .kind-at .ensures) _ (c .before .before .k2 .given .1)) (d .pre .2)
 
 same-length-2 : tie.Need-same-length-2
 same-length-2 c = search needs
 
 returns-2 : tie.Need-returns-2
-returns-2 c = wrote-as (c .before .before .write-block .ensures) (page-run _ _ (c .before .before .before .before .before .before .before .kind-at .ensures) _ (c .before .before .before .before .before .k2 .given .1))
+returns-2 c =
+    let d = c .before .before .before .before .before in let e = d .before .before in
+    wrote-as (c .before .before .write-block .ensures) (page-run _ _ (e .kind-at .ensures) _ (d .k2 .given .1))
 
 returns-3 : tie.Need-returns-3
 returns-3 c = wrote-none _ _ _ (bare-blocks _ _ _ (c .before .kind-at .ensures) (others-bare (c .before .kind-at .result) (c .match .keys3)))

@@ -22,10 +22,14 @@ mul-end : tie.Need-mul-end Inv-loop μ-loop
 mul-end c = let a = admitted _ _ (c .before .before .before .before .pre .0) in let h = a .shape in record { fits = omega arith }
 
 loop-holds : tie.Need-loop-holds Inv-loop μ-loop
-loop-holds c = let a = admitted _ _ (c .before .before .before .before .pre .0) in let h = a .shape in (omega arith, refl, omega arith, writing-none _ _ _ _ (from-start _ _))
+loop-holds c =
+    let a = admitted _ _ (c .before .before .before .before .pre .0) in let h = a .shape in
+    (omega arith, refl, omega arith, writing-none _ _ _ _ (from-start _ _))
 
 write-page-requires : tie.Need-write-page-requires Inv-loop μ-loop
-write-page-requires c κs = (c .before .before .before .before .before .before .before .pre .0, omega arith, page-room _ _ (c .before .before .loop .inv .3) (omega arith) (omega (arith, c .before .before .before .before .before .before .before .pre .1)))
+write-page-requires c κs =
+    let d = c .before .before .before .before .before .before .before in
+    (d .pre .0, omega arith, page-room _ _ (c .before .before .loop .inv .3) (omega arith) (omega (arith, d .pre .1)))
 
 add-g : tie.Need-add-g Inv-loop μ-loop
 add-g c = search needs
@@ -34,7 +38,9 @@ loop-less : tie.Need-loop-less Inv-loop μ-loop
 loop-less c = search needs
 
 loop-again : tie.Need-loop-again Inv-loop μ-loop
-loop-again c = (omega arith, c .before .before .before .before .before .loop .inv .1, c .before .before .before .before .before .loop .inv .2, page-on _ _ (c .before .before .before .before .before .loop .inv .3) (omega arith) (c .before .before .write-page .ensures))
+loop-again c =
+    let d = c .before .before .before .before .before in
+    (omega arith, d .loop .inv .1, d .loop .inv .2, page-on _ _ (d .loop .inv .3) (omega arith) (c .before .before .write-page .ensures))
 
 same-length : tie.Need-same-length Inv-loop μ-loop
 same-length c = c .before .loop .inv .3 .long

@@ -30,10 +30,14 @@ wide16-requires-2 : tie.Need-wide16-requires-2 Inv-loop μ-loop
 wide16-requires-2 c κs = search needs
 
 next-taken-requires : tie.Need-next-taken-requires Inv-loop μ-loop
-next-taken-requires c κs = let k = cut (c .before .before .class-row .ensures) (c .before .wide16 .ensures) (c .wide162 .ensures) in (omega arith, omega arith, omega arith, cut-few k)
+next-taken-requires c κs =
+    let k = cut (c .before .before .class-row .ensures) (c .before .wide16 .ensures) (c .wide162 .ensures) in
+    (omega arith, omega arith, omega arith, cut-few k)
 
 loop-holds : tie.Need-loop-holds Inv-loop μ-loop
-loop-holds c = let k = cut (c .before .before .before .class-row .ensures) (c .before .before .wide16 .ensures) (c .before .wide162 .ensures) in let t = c .next-taken .ensures in (t .high, t .here, k, writing-none _ _ _ _ (slots-start _ _ _ k t))
+loop-holds c =
+    let k = cut (c .before .before .before .class-row .ensures) (c .before .before .wide16 .ensures) (c .before .wide162 .ensures) in
+    let t = c .next-taken .ensures in (t .high, t .here, k, writing-none _ _ _ _ (slots-start _ _ _ k t))
 
 mul-write-block : tie.Need-mul-write-block Inv-loop μ-loop
 mul-write-block c = search needs
@@ -45,7 +49,10 @@ add-write-block : tie.Need-add-write-block Inv-loop μ-loop
 add-write-block c = let m = cut-offset {s = c .before .before .loop .s} (c .before .before .loop .inv .2) (omega arith) in record { fits = omega arith }
 
 write-block-requires : tie.Need-write-block-requires Inv-loop μ-loop
-write-block-requires c κs = slot-room _ _ _ (c .before .before .loop .inv .2) (c .before .before .loop .inv .3) (omega arith) (c .before .before .loop .inv .1 (omega arith)) (c .before .before .before .before .before .before .before .before .before .pre .3)
+write-block-requires c κs =
+    let d = c .before .before .before .before .before .before .before .before .before in
+    slot-room _ _ _ (c .before .before .loop .inv .2) (c .before .before .loop .inv .3) (omega arith) (c .before .before .loop .inv .1
+    (omega arith)) (d .pre .3)
 
 add-next-taken : tie.Need-add-next-taken Inv-loop μ-loop
 add-next-taken c = let k = cut-few (c .before .before .before .before .before .loop .inv .2) in record { fits = omega arith }
@@ -57,7 +64,14 @@ loop-less : tie.Need-loop-less Inv-loop μ-loop
 loop-less c = let t = c .next-taken2 .ensures in omega arith
 
 loop-again : tie.Need-loop-again Inv-loop μ-loop
-loop-again c = let t = c .next-taken2 .ensures in (t .high, t .here, c .before .before .before .before .before .before .loop .inv .2, slot-on _ _ _ (c .before .before .before .before .before .before .loop .inv .2) (c .before .before .before .before .before .before .loop .inv .3) (omega arith) (c .before .before .before .before .before .before .loop .inv .1 (omega arith)) (c .before .before .before .write-block .ensures) t)
+loop-again c =
+    let d = c .before .before .before .before .before .before in let t = c .next-taken2 .ensures in (
+      t .high,
+      t .here,
+      d .loop .inv .2,
+      slot-on _ _ _ (d .loop .inv .2) (d .loop .inv .3) (omega arith) (d .loop .inv .1 (omega arith))
+          (c .before .before .before .write-block .ensures) t,
+    )
 
 same-length : tie.Need-same-length Inv-loop μ-loop
 same-length c = c .before .loop .inv .3 .long

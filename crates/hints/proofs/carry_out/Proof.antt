@@ -7,13 +7,20 @@ use Rattle.hints.proofs.carry_out.Statement.{statement}
 use Rattle.hints.proofs.carry_out.Tie as tie
 
 perform-plan-requires : tie.Need-perform-plan-requires
-perform-plan-requires c κs = (c .before .before .before .before .before .before .before .pre .0, plan-good _ _ _ _ (c .before .before .before .before .before .before .before .pre .2 .1) (c .before .before .before .before .before .before .before .pre .0))
+perform-plan-requires c κs =
+    let d = c .before .before .before .before .before .before .before in (d .pre .0, plan-good _ _ _ _ (d .pre .2 .1) (d .pre .0))
 
 note-plan-requires : tie.Need-note-plan-requires
-note-plan-requires c κs = (c .before .before .before .before .before .before .before .before .before .before .before .before .before .before .before .before .pre .1 .cuts, plan-near _ _ (c .before .before .before .before .before .before .before .before .before .before .before .before .before .before .before .before .pre .0) _ _ (c .before .before .before .before .before .before .before .before .before .before .before .before .before .before .before .before .pre .2 .1) _ (c .before .before .before .before .before .before .before .before .perform-plan .ensures))
+note-plan-requires c κs =
+    let d = c .before .before .before .before .before .before .before .before in
+    let e = d .before .before .before .before .before .before .before .before in
+    (e .pre .1 .cuts, plan-near _ _ (e .pre .0) _ _ (e .pre .2 .1) _ (d .perform-plan .ensures))
 
 answer-of-requires : tie.Need-answer-of-requires
-answer-of-requires c κs = (plan-low _ _ _ _ (c .before .before .before .before .before .before .before .before .before .before .before .before .before .before .before .before .before .before .before .pre .2 .1) (c .before .before .before .before .before .before .before .before .before .before .before .before .before .before .before .before .before .before .before .pre .0), c .before .before .note-plan .ensures .1)
+answer-of-requires c κs =
+    let d =
+    c .before .before .before .before .before .before .before .before .before .before .before .before .before .before .before .before .before .before .before in
+    (plan-low _ _ _ _ (d .pre .2 .1) (d .pre .0), c .before .before .note-plan .ensures .1)
 
 same-length : tie.Need-same-length
 same-length c = search needs

@@ -58,7 +58,9 @@ mul-hints-2 : tie.Need-mul-hints-2 Inv-loop μ-loop
 mul-hints-2 c = search needs
 
 slice-write-hints-2 : tie.Need-slice-write-hints-2 Inv-loop μ-loop
-slice-write-hints-2 c = row-room (c .before .before .before .before .before .before .loop .hints) (3870 + c .before .before .before .before .before .before .loop .b) (c .before .before .wide64 .result) (c .before .before .before .before .before .before .loop .inv .1 .long) (c .before .before .before .before .before .loop-test .taken)
+slice-write-hints-2 c =
+    let d = c .before .before .before .before .before in let e = d .before in
+    row-room (e .loop .hints) (3870 + e .loop .b) (c .before .before .wide64 .result) (e .loop .inv .1 .long) (d .loop-test .taken)
 
 add-b : tie.Need-add-b Inv-loop μ-loop
 add-b c = search needs
@@ -67,7 +69,13 @@ loop-less : tie.Need-loop-less Inv-loop μ-loop
 loop-less c = search needs
 
 loop-again : tie.Need-loop-again Inv-loop μ-loop
-loop-again c = (omega arith, rowed-on (c .before .before .before .before .before .before .loop .inv .1) (c .before .before .before .before .before .loop-test .taken) _ _ (c .before .before .wide64 .ensures ∙ row-size _ (c .before .before .before .before .before .before .loop .inv .2) (c .before .before .before .wide16 .ensures)) (c .wide642 .ensures ∙ row-slots _ (c .before .before .before .before .before .before .loop .inv .2) (c .before .wide162 .ensures)), c .before .before .before .before .before .before .loop .inv .2)
+loop-again c =
+    let d = c .before .before .before .before .before in let e = d .before in (
+      omega arith,
+      rowed-on (e .loop .inv .1) (d .loop-test .taken) _ _ (c .before .before .wide64 .ensures ∙ row-size _ (e .loop .inv .2)
+          (c .before .before .before .wide16 .ensures)) (c .wide642 .ensures ∙ row-slots _ (e .loop .inv .2) (c .before .wide162 .ensures)),
+      e .loop .inv .2,
+    )
 
 same-length : tie.Need-same-length Inv-loop μ-loop
 same-length c = search needs

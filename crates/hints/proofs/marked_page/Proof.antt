@@ -19,7 +19,9 @@ shared-slice-read-low : tie.Need-shared-slice-read-low
 shared-slice-read-low c = search needs
 
 add-next-bit : tie.Need-add-next-bit
-add-next-bit c = let h = c .before .before .before .before .before .pre .0 in let k = h .bound _ (c .before .before .before .before .before .pre .2) in record { fits = omega arith }
+add-next-bit c =
+    let d = c .before .before .before .before .before in let h = d .pre .0 in let k = h .bound _ (d .pre .2) in
+    record { fits = omega arith }
 
 mul-next-bit : tie.Need-mul-next-bit
 mul-next-bit c = search needs
@@ -28,13 +30,17 @@ add-next-bit-2 : tie.Need-add-next-bit-2
 add-next-bit-2 c = search needs
 
 next-bit-requires : tie.Need-next-bit-requires
-next-bit-requires c κs = let h = c .before .before .before .before .before .pre .0 in let k = h .bound _ (c .before .before .before .before .before .pre .2) in let n = h .cuts .long in (omega arith, omega arith, omega arith)
+next-bit-requires c κs =
+    let d = c .before .before .before .before .before in let h = d .pre .0 in let k = h .bound _ (d .pre .2) in let n = h .cuts .long in
+    (omega arith, omega arith, omega arith)
 
 sub-result : tie.Need-sub-result
-sub-result c = marked (c .before .before .before .before .before .before .pre .0) _ _ (c .before .before .before .before .before .before .pre .2) _ refl (c .next-bit .ensures) .0
+sub-result c =
+    let d = c .before .before .before .before .before .before in marked (d .pre .0) _ _ (d .pre .2) _ refl (c .next-bit .ensures) .0
 
 returns : tie.Need-returns
-returns c = marked (c .before .before .before .before .before .before .pre .0) _ _ (c .before .before .before .before .before .before .pre .2) _ refl (c .next-bit .ensures) .1
+returns c =
+    let d = c .before .before .before .before .before .before in marked (d .pre .0) _ _ (d .pre .2) _ refl (c .next-bit .ensures) .1
 
 pub marked-page-spec : {M : Type 1} → statement M
 marked-page-spec =

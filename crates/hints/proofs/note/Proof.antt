@@ -24,13 +24,20 @@ add-put-bit : tie.Need-add-put-bit
 add-put-bit c = search needs
 
 put-bit-requires : tie.Need-put-bit-requires
-put-bit-requires c κs = note-room (c .before .before .before .args .hints .now) (3840 + c .before .before .before .args .b) (c .before .wide64 .result) (c .before .before .before .pre .0) (c .before .before .before .pre .1) (c .before .before .before .pre .2)
+put-bit-requires c κs =
+    let d = c .before .before .before in
+    note-room (d .args .hints .now) (3840 + d .args .b) (c .before .wide64 .result) (d .pre .0) (d .pre .1) (d .pre .2)
 
 same-length : tie.Need-same-length
-same-length c = note-long (c .before .before .before .before .before .before .args .hints .now) (3840 + c .before .before .before .before .before .before .args .b) (c .before .before .before .before .wide64 .result) _ _ (c .before .before .put-bit .ensures)
+same-length c =
+    let d = c .before .before .before .before .before .before in
+    note-long (d .args .hints .now) (3840 + d .args .b) (c .before .before .before .before .wide64 .result) _ _
+    (c .before .before .put-bit .ensures)
 
 returns : tie.Need-returns
-returns c = note-is (c .before .before .before .before .before .before .args .hints .now) _ _ _ _ (c .before .before .before .before .wide64 .ensures) (c .before .before .put-bit .ensures)
+returns c =
+    let d = c .before .before .before .before .before .before in
+    note-is (d .args .hints .now) _ _ _ _ (c .before .before .before .before .wide64 .ensures) (c .before .before .put-bit .ensures)
 
 pub note-spec : {M : Type 1} → statement M
 note-spec =

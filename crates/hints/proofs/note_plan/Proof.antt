@@ -17,25 +17,39 @@ enum-known-x-2 : tie.Need-enum-known-x-2
 enum-known-x-2 c = search needs
 
 note-slot-requires : tie.Need-note-slot-requires
-note-slot-requires c κs = let r : (_ < 8192) × (_ < 30) × (_ ≤ _) = near-as _ (c .before .before .x2 .given .1) (c .before .before .before .before .before .before .pre .1) in (c .before .before .before .before .before .before .pre .0, r .0, r .1, r .2)
+note-slot-requires c κs =
+    let d = c .before .before .before .before .before .before in
+    let r : (_ < 8192) × (_ < 30) × (_ ≤ _) = near-as _ (c .before .before .x2 .given .1) (d .pre .1) in (d .pre .0, r .0, r .1, r .2)
 
 same-length : tie.Need-same-length
 same-length c = search needs
 
 returns-2 : tie.Need-returns-2
-returns-2 c = (plan-as _ _ (c .before .before .before .before .before .x2 .given .1) (c .before .before .note-slot .ensures .0), size-as _ (c .before .before .before .before .before .x2 .given .1) (c .before .before .note-slot .ensures .1))
+returns-2 c =
+    let d = c .before .before .before .before .before in (
+      plan-as _ _ (d .x2 .given .1) (c .before .before .note-slot .ensures .0),
+      size-as _ (d .x2 .given .1)
+          (c .before .before .note-slot .ensures .1),
+    )
 
 enum-known-x-3 : tie.Need-enum-known-x-3
 enum-known-x-3 c = search needs
 
 note-slot-requires-2 : tie.Need-note-slot-requires-2
-note-slot-requires-2 c κs = let r : (_ < 8192) × (_ < 30) × (_ ≤ _) = near-as _ (c .before .before .x3 .given .1) (c .before .before .before .before .before .before .pre .1) in (c .before .before .before .before .before .before .pre .0, r .0, r .1, r .2)
+note-slot-requires-2 c κs =
+    let d = c .before .before .before .before .before .before in
+    let r : (_ < 8192) × (_ < 30) × (_ ≤ _) = near-as _ (c .before .before .x3 .given .1) (d .pre .1) in (d .pre .0, r .0, r .1, r .2)
 
 same-length-2 : tie.Need-same-length-2
 same-length-2 c = search needs
 
 returns-3 : tie.Need-returns-3
-returns-3 c = (plan-as _ _ (c .before .before .before .before .before .x3 .given .1) (c .before .before .note-slot2 .ensures .0), size-as _ (c .before .before .before .before .before .x3 .given .1) (c .before .before .note-slot2 .ensures .1))
+returns-3 c =
+    let d = c .before .before .before .before .before in (
+      plan-as _ _ (d .x3 .given .1) (c .before .before .note-slot2 .ensures .0),
+      size-as _ (d .x3 .given .1)
+          (c .before .before .note-slot2 .ensures .1),
+    )
 
 enum-known-x-4 : tie.Need-enum-known-x-4
 enum-known-x-4 c = search needs

@@ -37,7 +37,11 @@ same-length c = search needs
 
 returns : tie.Need-returns
 returns c =
-    (slot-is _ _ _ _ (c .before .before .before .before .free-slot .ensures) (c .before .before .before .before .before .before .before .before .before .pre .0 .counts _ (c .before .before .before .before .before .before .before .before .before .pre .2)) (c .before .before .note .ensures), c .before .before .before .before .before .before .before .before .before .pre .0 .sizes _ (c .before .before .before .before .before .before .before .before .before .pre .2))
+    let d = c .before .before .before .before .before .before .before .before .before in (
+      slot-is _ _ _ _ (c .before .before .before .before .free-slot .ensures) (d .pre .0 .counts _ (d .pre .2))
+          (c .before .before .note .ensures),
+      d .pre .0 .sizes _ (d .pre .2),
+    )
 
 pub note-slot-spec : {M : Type 1} → statement M
 note-slot-spec =

@@ -23,25 +23,36 @@ enum-known-x-3 : tie.Need-enum-known-x-3
 enum-known-x-3 c = search needs
 
 add-least : tie.Need-add-least
-add-least c = let r : (_ < 8192) × (_ < 30) = spot-near-as (c .before .x3 .given .1) (c .before .before .before .before .pre .1) in let b = r .1 in record { fits = omega arith }
+add-least c =
+    let r : (_ < 8192) × (_ < 30) = spot-near-as (c .before .x3 .given .1) (c .before .before .before .before .pre .1) in let b = r .1 in
+    record { fits = omega arith }
 
 mul-least : tie.Need-mul-least
-mul-least c = let r : (_ < 8192) × (_ < 30) = spot-near-as (c .before .x3 .given .1) (c .before .before .before .before .pre .1) in let b = r .1 in record { fits = omega arith }
+mul-least c =
+    let r : (_ < 8192) × (_ < 30) = spot-near-as (c .before .x3 .given .1) (c .before .before .before .before .pre .1) in let b = r .1 in
+    record { fits = omega arith }
 
 slice-read-least : tie.Need-slice-read-least
-slice-read-least c = let r : (_ < 8192) × (_ < 30) = spot-near-as (c .before .before .x3 .given .1) (c .before .before .before .before .before .pre .1) in let b = r .1 in let n = c .before .before .before .before .before .pre .0 in omega arith
+slice-read-least c =
+    let d = c .before .before .before .before .before in
+    let r : (_ < 8192) × (_ < 30) = spot-near-as (c .before .before .x3 .given .1) (d .pre .1) in let b = r .1 in let n = d .pre .0 in
+    omega arith
 
 least-requires : tie.Need-least-requires
 least-requires c κs = search needs
 
 note-requires : tie.Need-note-requires
-note-requires c κs = let r : (_ < 8192) × (_ < 30) = spot-near-as (c .before .before .before .before .x3 .given .1) (c .before .before .before .before .before .before .before .pre .1) in (c .before .before .before .before .before .before .before .pre .0, r .1, r .0)
+note-requires c κs =
+    let d = c .before .before .before .before .before .before .before in
+    let r : (_ < 8192) × (_ < 30) = spot-near-as (c .before .before .before .before .x3 .given .1) (d .pre .1) in (d .pre .0, r .1, r .0)
 
 same-length : tie.Need-same-length
 same-length c = search needs
 
 returns-3 : tie.Need-returns-3
-returns-3 c = spot-as _ (c .before .before .before .before .before .before .before .x3 .given .1) (least-is _ _ _ (c .before .before .before .before .least .ensures) (c .before .before .note .ensures))
+returns-3 c =
+    let d = c .before .before .before .before .before .before .before in
+    spot-as _ (d .x3 .given .1) (least-is _ _ _ (c .before .before .before .before .least .ensures) (c .before .before .note .ensures))
 
 pub note-spot-spec : {M : Type 1} → statement M
 note-spot-spec =

@@ -8,13 +8,18 @@ use Rattle.hints.proofs.release_hinted.Statement.{statement}
 use Rattle.hints.proofs.release_hinted.Tie as tie
 
 spot-hinted-requires : tie.Need-spot-hinted-requires
-spot-hinted-requires c κs = (c .before .before .before .before .before .before .before .before .pre .0, c .before .before .before .before .before .before .before .before .pre .1 .cuts)
+spot-hinted-requires c κs =
+    let d = c .before .before .before .before .before .before .before .before in (d .pre .0, d .pre .1 .cuts)
 
 note-spot-requires : tie.Need-note-spot-requires
-note-spot-requires c κs = (c .before .before .before .before .before .before .before .before .before .before .pre .1 .cuts .long, spot-near _ _ (c .before .before .before .before .before .before .before .before .before .before .pre .0) _ _ (c .before .spot-hinted .ensures))
+note-spot-requires c κs =
+    let d = c .before .before .before .before .before .before .before .before .before .before in
+    (d .pre .1 .cuts .long, spot-near _ _ (d .pre .0) _ _ (c .before .spot-hinted .ensures))
 
 give-back-requires : tie.Need-give-back-requires
-give-back-requires c κs = (c .before .before .before .before .before .before .before .before .before .before .before .before .before .before .before .before .pre .0, (_, c .before .before .before .before .before .before .before .spot-hinted .ensures))
+give-back-requires c κs =
+    let d = c .before .before .before .before .before .before .before in
+    let e = d .before .before .before .before .before .before .before .before .before in (e .pre .0, (_, d .spot-hinted .ensures))
 
 same-length : tie.Need-same-length
 same-length c = search needs

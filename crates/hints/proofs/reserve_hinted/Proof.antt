@@ -18,18 +18,25 @@ mul-k : tie.Need-mul-k
 mul-k c = let b = class-low (c .before .if1 .taken) (c .class-in .ensures) in record { fits = omega arith }
 
 slice-read-k : tie.Need-slice-read-k
-slice-read-k c = let b = class-low (c .before .before .if1 .taken) (c .before .class-in .ensures) in let n = c .before .before .before .before .before .before .before .before .pre .1 .cuts .long in omega arith
+slice-read-k c =
+    let d = c .before .before .before .before .before .before .before .before in
+    let b = class-low (c .before .before .if1 .taken) (c .before .class-in .ensures) in let n = d .pre .1 .cuts .long in omega arith
 
 marked-page-requires : tie.Need-marked-page-requires
-marked-page-requires c κs = let s = admitted _ _ (c .before .before .before .before .before .before .before .before .before .before .before .before .pre .0) .shape in (c .before .before .before .before .before .before .before .before .before .before .before .before .pre .1, s .few, class-low (c .before .before .before .before .before .before .if1 .taken) (c .before .before .before .before .before .class-in .ensures))
+marked-page-requires c κs =
+    let d = c .before .before .before .before .before in let e = d .before in let f = e .before .before .before .before .before .before in
+    let s = admitted _ _ (f .pre .0) .shape in (f .pre .1, s .few, class-low (e .if1 .taken) (d .class-in .ensures))
 
 mul-if2 : tie.Need-mul-if2
-mul-if2 c = let s = admitted _ _ (c .before .before .before .before .before .before .before .before .before .before .before .before .before .pre .0) .shape in record { fits = omega arith }
+mul-if2 c =
+    let d = c .before .before .before .before .before .before .before .before .before .before .before .before .before in
+    let s = admitted _ _ (d .pre .0) .shape in record { fits = omega arith }
 
 take-slot-requires : tie.Need-take-slot-requires
 take-slot-requires c κs =
-    let b = class-low (c .before .before .before .before .before .before .before .before .before .before .before .before .if1 .taken) (c .before .before .before .before .before .before .before .before .before .before .before .class-in .ensures) in
-    (c .before .before .before .before .before .before .before .before .before .before .before .before .before .before .before .before .before .before .pre .0, c .before .before .before .before .before .before .before .before .before .before .before .before .before .before .before .before .before .before .pre .1, b, c .before .before .before .before .before .before .before .before .before .before .before .before .before .before .before .before .before .before .pre .1 .cuts .counts _ b, c .before .before .before .before .before .marked-page .ensures, c .before .before .before .before .if2 .taken)
+    let d = c .before .before .before .before .before in let e = d .before .before .before .before .before .before in let f = e .before in
+    let g = f .before .before .before .before .before .before in let b = class-low (f .if1 .taken) (e .class-in .ensures) in
+    (g .pre .0, g .pre .1, b, g .pre .1 .cuts .counts _ b, d .marked-page .ensures, c .before .before .before .before .if2 .taken)
 
 same-length : tie.Need-same-length
 same-length c = search needs
@@ -44,14 +51,31 @@ same-length-4 : tie.Need-same-length-4
 same-length-4 c = search needs
 
 returns : tie.Need-returns
-returns c = (attempted _ _ _ (plan-small _ _ _ _ _ (c .before .before .before .before .before .before .before .before .before .before .before .before .before .before .before .before .before .if1 .taken) (c .before .before .before .before .before .before .before .before .before .before .before .before .before .before .before .before .class-in .ensures) refl) (c .before .before .before .before .take-slot .ensures .0), c .before .before .before .before .take-slot .ensures .1)
+returns c =
+    let d = c .before .before .before .before in
+    let e = d .before .before .before .before .before .before .before .before .before .before .before .before in let f = e .before in (
+      attempted _ _ _ (plan-small _ _ _ _ _ (f .if1 .taken) (e .class-in .ensures) refl) (d .take-slot .ensures .0),
+      d .take-slot .ensures .1,
+    )
 
 plan-slot-requires : tie.Need-plan-slot-requires
 plan-slot-requires c κs =
-    let b = class-low (c .before .before .before .before .before .before .before .before .before .before .before .if1 .taken) (c .before .before .before .before .before .before .before .before .before .before .class-in .ensures) in (c .before .before .before .before .before .before .before .before .before .before .before .before .before .before .before .before .before .pre .0, b, c .before .before .before .before .before .before .before .before .before .before .before .before .before .before .before .before .before .pre .1 .cuts .counts _ b, c .before .before .before .before .marked-page .ensures)
+    let d = c .before .before .before .before .before .before .before .before .before .before in let e = d .before in
+    let f = e .before .before .before .before .before .before in let b = class-low (e .if1 .taken) (d .class-in .ensures) in
+    (f .pre .0, b, f .pre .1 .cuts .counts _ b, c .before .before .before .before .marked-page .ensures)
 
 carry-out-requires : tie.Need-carry-out-requires
-carry-out-requires c κs = (c .before .before .before .before .before .before .before .before .before .before .before .before .before .before .before .before .before .before .before .before .before .before .pre .0, c .before .before .before .before .before .before .before .before .before .before .before .before .before .before .before .before .before .before .before .before .before .before .pre .1, (_, plan-small _ _ _ _ _ (c .before .before .before .before .before .before .before .before .before .before .before .before .before .before .before .before .if1 .taken) (c .before .before .before .before .before .before .before .before .before .before .before .before .before .before .before .class-in .ensures) (c .before .before .before .before .plan-slot .ensures)))
+carry-out-requires c κs =
+    let d = c .before .before .before .before .before .before .before .before .before .before .before .before .before .before .before in
+    let e = d .before in let f = e .before .before .before .before .before .before in (
+      f .pre .0,
+      f .pre .1,
+      (
+        _,
+        plan-small _ _ _ _ _ (e .if1 .taken) (d .class-in .ensures)
+            (c .before .before .before .before .plan-slot .ensures),
+      ),
+    )
 
 same-length-5 : tie.Need-same-length-5
 same-length-5 c = search needs
@@ -66,13 +90,22 @@ same-length-8 : tie.Need-same-length-8
 same-length-8 c = search needs
 
 returns-2 : tie.Need-returns-2
-returns-2 c = (attempted _ _ _ (plan-small _ _ _ _ _ (c .before .before .before .before .before .before .before .before .before .before .before .before .before .before .before .before .before .before .before .before .before .before .before .before .before .if1 .taken) (c .before .before .before .before .before .before .before .before .before .before .before .before .before .before .before .before .before .before .before .before .before .before .before .before .class-in .ensures) (c .before .before .before .before .before .before .before .before .before .before .before .before .before .plan-slot .ensures)) (c .before .before .before .before .before .before .before .before .carry-out .ensures .0), c .before .before .before .before .before .before .before .before .carry-out .ensures .1)
+returns-2 c =
+    let d = c .before .before .before .before .before .before .before .before in let e = d .before .before .before .before .before in
+    let f = e .before .before .before .before .before .before .before .before .before .before .before in let g = f .before in (
+      attempted _ _ _ (plan-small _ _ _ _ _ (g .if1 .taken) (f .class-in .ensures) (e .plan-slot .ensures)) (d .carry-out .ensures .0),
+      d .carry-out .ensures .1,
+    )
 
 plan-large-requires : tie.Need-plan-large-requires
-plan-large-requires c κs = let s = admitted _ _ (c .before .before .before .before .before .before .before .pre .0) .shape in let n = c .before .if1 .left in (omega arith, omega arith, omega arith)
+plan-large-requires c κs =
+    let d = c .before .before .before .before .before .before .before in let s = admitted _ _ (d .pre .0) .shape in
+    let n = c .before .if1 .left in (omega arith, omega arith, omega arith)
 
 carry-out-requires-2 : tie.Need-carry-out-requires-2
-carry-out-requires-2 c κs = (c .before .before .before .before .before .before .before .before .before .before .before .before .pre .0, c .before .before .before .before .before .before .before .before .before .before .before .before .pre .1, (_, plan-large _ _ _ _ (c .before .before .before .before .before .before .if1 .left) (c .before .before .before .before .plan-large .ensures)))
+carry-out-requires-2 c κs =
+    let d = c .before .before .before .before .before .before in let e = d .before .before .before .before .before .before in
+    (e .pre .0, e .pre .1, (_, plan-large _ _ _ _ (d .if1 .left) (c .before .before .before .before .plan-large .ensures)))
 
 same-length-9 : tie.Need-same-length-9
 same-length-9 c = search needs
@@ -87,7 +120,10 @@ same-length-12 : tie.Need-same-length-12
 same-length-12 c = search needs
 
 returns-3 : tie.Need-returns-3
-returns-3 c = (attempted _ _ _ (plan-large _ _ _ _ (c .before .before .before .before .before .before .before .before .before .before .before .before .before .before .before .if1 .left) (c .before .before .before .before .before .before .before .before .before .before .before .before .before .plan-large .ensures)) (c .before .before .before .before .before .before .before .before .carry-out2 .ensures .0), c .before .before .before .before .before .before .before .before .carry-out2 .ensures .1)
+returns-3 c =
+    let d = c .before .before .before .before .before .before .before .before in let e = d .before .before .before .before .before in
+    let f = e .before .before in
+    (attempted _ _ _ (plan-large _ _ _ _ (f .if1 .left) (e .plan-large .ensures)) (d .carry-out2 .ensures .0), d .carry-out2 .ensures .1)
 
 pub reserve-hinted-spec : {M : Type 1} → statement M
 reserve-hinted-spec =

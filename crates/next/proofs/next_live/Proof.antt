@@ -17,13 +17,18 @@ enum-known-y : tie.Need-enum-known-y
 enum-known-y c = search needs
 
 returns-2 : tie.Need-returns-2
-returns-2 c = next-served _ _ _ _ (c .before .before .before .before .before .admit .ensures) (c .before .before .before .before .if1 .left) (c .before .y .given .1) (c .before .before .before .next-sound .ensures)
+returns-2 c =
+    let d = c .before .before .before .before .before in
+    next-served _ _ _ _ (d .admit .ensures) (c .before .before .before .before .if1 .left) (c .before .y .given .1)
+    (c .before .before .before .next-sound .ensures)
 
 enum-told : tie.Need-enum-told
 enum-told c = search needs
 
 returns-3 : tie.Need-returns-3
-returns-3 c = next-served _ _ _ _ (c .before .before .before .before .admit .ensures) (c .before .before .before .if1 .left) (c .enum-told .given .1) (c .before .before .next-sound .ensures)
+returns-3 c =
+    next-served _ _ _ _ (c .before .before .before .before .admit .ensures) (c .before .before .before .if1 .left)
+    (c .enum-told .given .1) (c .before .before .next-sound .ensures)
 
 pub next-live-spec : {M : Type 1} → statement M
 next-live-spec =

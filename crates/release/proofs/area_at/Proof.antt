@@ -36,17 +36,20 @@ add-t18 c = let d = c .before .before .before .before in
 returns-3 : tie.Need-returns-3
 returns-3 c =
     let d = c .before .before .before .before in
-    lies-first _ _ (d .before .before .before .before .before .pre) _ (omega arith) _ _ (lies-as (c .before .before .kind2 .given .1) (d .home-at .ensures)) (c .if2 .taken) _ (omega arith)
+    lies-first _ _ (d .before .before .before .before .before .pre) _ (omega arith) _ _ (lies-as (c .before .before .kind2 .given .1)
+    (d .home-at .ensures)) (c .if2 .taken) _ (omega arith)
 
 returns-4 : tie.Need-returns-4
 returns-4 c =
     let d = c .before .before .before .before in
-    lies-behind _ _ (d .before .before .before .before .before .pre) _ (omega arith) _ _ (lies-as (c .before .before .kind2 .given .1) (d .home-at .ensures)) (c .if2 .left)
+    lies-behind _ _ (d .before .before .before .before .before .pre) _ (omega arith) _ _ (lies-as (c .before .before .kind2 .given .1)
+    (d .home-at .ensures)) (c .if2 .left)
 
 returns-5 : tie.Need-returns-5
 returns-5 c =
     let d = c .before in
-    lies-bare _ _ (d .before .before .before .before .before .pre) _ (omega arith) _ _ (others-bare (d .home-at .result .kind) (c .match .keys3)) (d .home-at .ensures)
+    lies-bare _ _ (d .before .before .before .before .before .pre) _ (omega arith) _ _ (others-bare (d .home-at .result .kind)
+    (c .match .keys3)) (d .home-at .ensures)
 
 pub area-at-spec : {M : Type 1} → statement M
 area-at-spec =

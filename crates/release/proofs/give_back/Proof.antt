@@ -17,10 +17,9 @@ enum-known-x-2 c = search needs
 
 give-run-requires : tie.Need-give-run-requires
 give-run-requires c κs =
-    let a = admitted _ _ (c .before .before .before .before .before .before .before .before .pre .0) in let h = a .shape in
-    let r : RunAt _ _ _ _ _ = found _ _ _ (c .before .before .before .before .before .before .before .before .pre .1 .1) (c .before .before .before .x2 .given .1) in
-    let e = large-ends _ _ (a .whole) r in
-    (r .some, omega arith, omega arith, omega arith, large-zeros _ _ (a .whole) r)
+    let d = c .before .before .before .before .before .before .before .before in let a = admitted _ _ (d .pre .0) in let h = a .shape in
+    let r : RunAt _ _ _ _ _ = found _ _ _ (d .pre .1 .1) (c .before .before .before .x2 .given .1) in
+    let e = large-ends _ _ (a .whole) r in (r .some, omega arith, omega arith, omega arith, large-zeros _ _ (a .whole) r)
 
 same-length : tie.Need-same-length
 same-length c = search needs
@@ -29,19 +28,29 @@ same-length-2 : tie.Need-same-length-2
 same-length-2 c = search needs
 
 returns-2 : tie.Need-returns-2
-returns-2 c = gave-run _ _ _ (c .before .before .before .before .before .before .before .before .x2 .given .1) _ _ (c .before .before .before .before .give-run .ensures .0) (c .before .before .before .before .give-run .ensures .1)
+returns-2 c =
+    let d = c .before .before .before .before in let e = d .before .before .before .before in
+    gave-run _ _ _ (e .x2 .given .1) _ _ (d .give-run .ensures .0) (d .give-run .ensures .1)
 
 enum-known-x-3 : tie.Need-enum-known-x-3
 enum-known-x-3 c = search needs
 
 mul-put-bit : tie.Need-mul-put-bit
-mul-put-bit c = let a = admitted _ _ (c .before .before .before .before .before .before .before .pre .0) in let h = a .shape in let r : SlotAt _ _ _ _ _ _ = found _ _ _ (c .before .before .before .before .before .before .before .pre .1 .1) (c .before .before .x3 .given .1) in let k = few-slots r in record { fits = omega arith }
+mul-put-bit c =
+    let d = c .before .before .before .before .before .before .before in let a = admitted _ _ (d .pre .0) in let h = a .shape in
+    let r : SlotAt _ _ _ _ _ _ = found _ _ _ (d .pre .1 .1) (c .before .before .x3 .given .1) in let k = few-slots r in
+    record { fits = omega arith }
 
 add-put-bit : tie.Need-add-put-bit
-add-put-bit c = let a = admitted _ _ (c .before .before .before .before .before .before .before .pre .0) in let h = a .shape in let r : SlotAt _ _ _ _ _ _ = found _ _ _ (c .before .before .before .before .before .before .before .pre .1 .1) (c .before .before .x3 .given .1) in let k = few-slots r in record { fits = omega arith }
+add-put-bit c =
+    let d = c .before .before .before .before .before .before .before in let a = admitted _ _ (d .pre .0) in let h = a .shape in
+    let r : SlotAt _ _ _ _ _ _ = found _ _ _ (d .pre .1 .1) (c .before .before .x3 .given .1) in let k = few-slots r in
+    record { fits = omega arith }
 
 put-bit-requires : tie.Need-put-bit-requires
-put-bit-requires c κs = let a = admitted _ _ (c .before .before .before .before .before .before .before .pre .0) in let h = a .shape in let r : SlotAt _ _ _ _ _ _ = found _ _ _ (c .before .before .before .before .before .before .before .pre .1 .1) (c .before .before .x3 .given .1) in let k = few-slots r in omega arith
+put-bit-requires c κs =
+    let d = c .before .before .before .before .before .before .before in let a = admitted _ _ (d .pre .0) in let h = a .shape in
+    let r : SlotAt _ _ _ _ _ _ = found _ _ _ (d .pre .1 .1) (c .before .before .x3 .given .1) in let k = few-slots r in omega arith
 
 same-length-3 : tie.Need-same-length-3
 same-length-3 c = search needs

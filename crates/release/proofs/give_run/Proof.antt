@@ -20,7 +20,9 @@ same-length-2 : tie.Need-same-length-2
 same-length-2 c = search needs
 
 returns : tie.Need-returns
-returns c = (c .before .before .put-bits .ensures, first-cleared _ _ _ (c .before .before .before .before .before .before .pre .0) (c .before .before .before .before .before .before .pre .4))
+returns c =
+    let d = c .before .before .before .before .before .before in
+    (c .before .before .put-bits .ensures, first-cleared _ _ _ (d .pre .0) (d .pre .4))
 
 pub give-run-spec : {M : Type 1} → statement M
 give-run-spec =

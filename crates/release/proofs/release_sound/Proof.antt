@@ -9,7 +9,9 @@ spot-at-requires : tie.Need-spot-at-requires
 spot-at-requires c κs = search needs
 
 give-back-requires : tie.Need-give-back-requires
-give-back-requires c κs = (c .before .before .before .before .before .before .before .before .before .before .pre, (_, c .before .before .before .spot-at .ensures))
+give-back-requires c κs =
+    let d = c .before .before .before .before .before .before .before .before .before .before in
+    (d .pre, (_, c .before .before .before .spot-at .ensures))
 
 same-length : tie.Need-same-length
 same-length c = search needs
@@ -21,7 +23,9 @@ same-length-3 : tie.Need-same-length-3
 same-length-3 c = search needs
 
 returns : tie.Need-returns
-returns c = c .before .before .before .before .before .before .give-back .ensures ∙ gave-at _ _ _ (c .before .before .before .before .before .before .before .before .before .before .spot-at .ensures)
+returns c =
+    let d = c .before .before .before .before .before .before in let e = d .before .before .before .before in
+    d .give-back .ensures ∙ gave-at _ _ _ (e .spot-at .ensures)
 
 pub release-sound-spec : {M : Type 1} → statement M
 release-sound-spec =

@@ -27,16 +27,23 @@ wide64-requires : tie.Need-wide64-requires
 wide64-requires c κs = search needs
 
 mul-t15 : tie.Need-mul-t15
-mul-t15 c = let a = admitted _ _ (c .before .before .before .before .before .before .before .before .pre) in let h = a .shape in let r : RunAt _ _ _ _ _ = found _ _ _ (c .before .before .before .before .spot-at .ensures) (c .before .before .g .given .1) in let e = large-ends _ _ (a .whole) r in let n = c .wide64 .ensures in record { fits = omega arith }
+mul-t15 c =
+    let d = c .before .before .before .before .before .before .before .before in let a = admitted _ _ (d .pre) in let h = a .shape in
+    let r : RunAt _ _ _ _ _ = found _ _ _ (c .before .before .before .before .spot-at .ensures) (c .before .before .g .given .1) in
+    let e = large-ends _ _ (a .whole) r in let n = c .wide64 .ensures in record { fits = omega arith }
 
 returns-2 : tie.Need-returns-2
-returns-2 c = size-as (c .before .before .g .given .1) (c .before .before .before .before .spot-at .ensures) (ap (λ (n : ℕ). sized 0 (4096 * n)) (c .wide64 .ensures))
+returns-2 c =
+    size-as (c .before .before .g .given .1) (c .before .before .before .before .spot-at .ensures) (ap (λ (n : ℕ). sized 0 (4096 * n))
+    (c .wide64 .ensures))
 
 enum-known-g-2 : tie.Need-enum-known-g-2
 enum-known-g-2 c = search needs
 
 class-row-requires : tie.Need-class-row-requires
-class-row-requires c κs = let r : SlotAt _ _ _ _ _ _ = found _ _ _ (c .before .before .before .spot-at .ensures) (c .before .g2 .given .1) in class-at-low _ _ _ (r .kind)
+class-row-requires c κs =
+    let r : SlotAt _ _ _ _ _ _ = found _ _ _ (c .before .before .before .spot-at .ensures) (c .before .g2 .given .1) in
+    class-at-low _ _ _ (r .kind)
 
 wide16-requires : tie.Need-wide16-requires
 wide16-requires c κs = search needs
@@ -45,7 +52,10 @@ wide64-requires-2 : tie.Need-wide64-requires-2
 wide64-requires-2 c κs = search needs
 
 returns-3 : tie.Need-returns-3
-returns-3 c = size-as (c .before .before .before .before .g2 .given .1) (c .before .before .before .before .before .before .spot-at .ensures) (ap (sized 0) (c .wide642 .ensures ∙ size-read _ (c .before .before .class-row .ensures) (c .before .wide16 .ensures)))
+returns-3 c =
+    let d = c .before .before .before .before .before .before in
+    size-as (c .before .before .before .before .g2 .given .1) (d .spot-at .ensures) (ap (sized 0) (c .wide642 .ensures ∙ size-read _
+    (c .before .before .class-row .ensures) (c .before .wide16 .ensures)))
 
 pub size-sound-spec : {M : Type 1} → statement M
 size-sound-spec =

@@ -17,22 +17,34 @@ div-s : tie.Need-div-s
 div-s c = let h = row-facts _ (c .before .before .pre .2) in omega arith
 
 returns-2 : tie.Need-returns-2
-returns-2 c = slot-behind _ _ _ _ (record { size-is = c .before .before .before .pre .3; slots-is = c .before .before .before .pre .4 }) (c .before .if1 .left) (c .if2 .taken)
+returns-2 c =
+    let d = c .before .before .before in
+    slot-behind _ _ _ _ (record { size-is = d .pre .3; slots-is = d .pre .4 }) (c .before .if1 .left) (c .if2 .taken)
 
 mul-is-set : tie.Need-mul-is-set
 mul-is-set c = search needs
 
 add-is-set : tie.Need-add-is-set
-add-is-set c = let k : Cut _ _ _ = record { size-is = c .before .before .before .pre .3; slots-is = c .before .before .before .pre .4 } in let s = cut-few k in let l = c .if2 .left in record { fits = omega arith }
+add-is-set c =
+    let d = c .before .before .before in let k : Cut _ _ _ = record { size-is = d .pre .3; slots-is = d .pre .4 } in let s = cut-few k in
+    let l = c .if2 .left in record { fits = omega arith }
 
 is-set-requires : tie.Need-is-set-requires
-is-set-requires c κs = let k : Cut _ _ _ = record { size-is = c .before .before .before .pre .3; slots-is = c .before .before .before .pre .4 } in let s = cut-few k in let l = c .if2 .left in omega arith
+is-set-requires c κs =
+    let d = c .before .before .before in let k : Cut _ _ _ = record { size-is = d .pre .3; slots-is = d .pre .4 } in let s = cut-few k in
+    let l = c .if2 .left in omega arith
 
 returns-3 : tie.Need-returns-3
-returns-3 c = slot-taken _ _ _ _ (record { size-is = c .before .before .before .before .before .pre .3; slots-is = c .before .before .before .before .before .pre .4 }) (c .before .before .before .if1 .left) (c .before .before .if2 .left) (sym (c .before .is-set .ensures) ∙ c .if3 .taken)
+returns-3 c =
+    let d = c .before .before .before .before .before in
+    slot-taken _ _ _ _ (record { size-is = d .pre .3; slots-is = d .pre .4 }) (c .before .before .before .if1 .left)
+    (c .before .before .if2 .left) (sym (c .before .is-set .ensures) ∙ c .if3 .taken)
 
 returns-4 : tie.Need-returns-4
-returns-4 c = slot-free _ _ _ _ (record { size-is = c .before .before .before .before .before .pre .3; slots-is = c .before .before .before .before .before .pre .4 }) (c .before .before .before .if1 .left) (c .before .before .if2 .left) (sym (c .before .is-set .ensures) ∙ c .if3 .left)
+returns-4 c =
+    let d = c .before .before .before .before .before in
+    slot-free _ _ _ _ (record { size-is = d .pre .3; slots-is = d .pre .4 }) (c .before .before .before .if1 .left)
+    (c .before .before .if2 .left) (sym (c .before .is-set .ensures) ∙ c .if3 .left)
 
 pub slot-spot-spec : {M : Type 1} → statement M
 slot-spot-spec =

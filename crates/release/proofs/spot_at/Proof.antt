@@ -28,7 +28,10 @@ enum-known-g-2 : tie.Need-enum-known-g-2
 enum-known-g-2 c = search needs
 
 class-row-requires : tie.Need-class-row-requires
-class-row-requires c κs = let l : (_ < _) × (_ < 30) × (_ ≤ _) × (_ ≡ _) = leads-as _ _ _ (c .before .g2 .given .1) (c .before .before .before .area-at .ensures) in l .1
+class-row-requires c κs =
+    let l : (_ < _) × (_ < 30) × (_ ≤ _) × (_ ≡ _) = leads-as _ _ _ (c .before .g2 .given .1)
+    (c .before .before .before .area-at .ensures) in
+    l .1
 
 wide16-requires : tie.Need-wide16-requires
 wide16-requires c κs = search needs
@@ -37,19 +40,38 @@ wide16-requires-2 : tie.Need-wide16-requires-2
 wide16-requires-2 c κs = search needs
 
 mul-slot-spot : tie.Need-mul-slot-spot
-mul-slot-spot c = let l : (_ < _) × (_ < 30) × (_ ≤ _) × (_ ≡ _) = leads-as _ _ _ (c .before .before .before .before .g2 .given .1) (c .before .before .before .before .before .before .area-at .ensures) in let a = l .2 in record { fits = omega arith }
+mul-slot-spot c =
+    let d = c .before .before .before .before .before .before in
+    let l : (_ < _) × (_ < 30) × (_ ≤ _) × (_ ≡ _) = leads-as _ _ _ (c .before .before .before .before .g2 .given .1)
+    (d .area-at .ensures) in
+    let a = l .2 in record { fits = omega arith }
 
 sub-slot-spot : tie.Need-sub-slot-spot
-sub-slot-spot c = let l : (_ < _) × (_ < 30) × (_ ≤ _) × (_ ≡ _) = leads-as _ _ _ (c .before .before .before .before .g2 .given .1) (c .before .before .before .before .before .before .area-at .ensures) in l .2
+sub-slot-spot c =
+    let d = c .before .before .before .before .before .before in
+    let l : (_ < _) × (_ < 30) × (_ ≤ _) × (_ ≡ _) = leads-as _ _ _ (c .before .before .before .before .g2 .given .1)
+    (d .area-at .ensures) in
+    l .2
 
 slot-spot-requires : tie.Need-slot-spot-requires
 slot-spot-requires c κs =
-    let l : (_ < _) × (_ < 30) × (_ ≤ _) × (_ ≡ _) = leads-as _ _ _ (c .before .before .before .before .g2 .given .1) (c .before .before .before .before .before .before .area-at .ensures) in
-    let h = admitted _ _ (c .before .before .before .before .before .before .before .before .before .before .pre) .shape in let a = l .0 in
-    (omega arith, omega arith, l .1, size-read _ (c .before .before .class-row .ensures) (c .before .wide16 .ensures), slots-read _ (c .before .before .class-row .ensures) (c .wide162 .ensures))
+    let d = c .before .before .before .before .before .before in let e = d .before .before .before .before in
+    let l : (_ < _) × (_ < 30) × (_ ≤ _) × (_ ≡ _) = leads-as _ _ _ (c .before .before .before .before .g2 .given .1)
+    (d .area-at .ensures) in
+    let h = admitted _ _ (e .pre) .shape in let a = l .0 in (
+      omega arith,
+      omega arith,
+      l .1,
+      size-read _ (c .before .before .class-row .ensures) (c .before .wide16 .ensures),
+      slots-read _
+          (c .before .before .class-row .ensures) (c .wide162 .ensures),
+    )
 
 returns-3 : tie.Need-returns-3
-returns-3 c = let l : (_ < _) × (_ < 30) × (_ ≤ _) × (_ ≡ _) = leads-as _ _ _ (c .before .before .before .before .before .g2 .given .1) (c .before .before .before .before .before .before .before .area-at .ensures) in c .slot-spot .ensures ∙ l .3
+returns-3 c =
+    let d = c .before .before .before .before .before in let e = d .before .before in
+    let l : (_ < _) × (_ < 30) × (_ ≤ _) × (_ ≡ _) = leads-as _ _ _ (d .g2 .given .1) (e .area-at .ensures) in
+    c .slot-spot .ensures ∙ l .3
 
 pub spot-at-spec : {M : Type 1} → statement M
 spot-at-spec =

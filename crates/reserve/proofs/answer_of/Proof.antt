@@ -17,7 +17,8 @@ enum-known-x-2 : tie.Need-enum-known-x-2
 enum-known-x-2 c = search needs
 
 slot-given-requires : tie.Need-slot-given-requires
-slot-given-requires c κs = (low-as (c .before .x2 .given .1) (c .before .before .before .pre .0), size-of _ (c .before .x2 .given .1) (c .before .before .before .pre .1))
+slot-given-requires c κs =
+    let d = c .before .before .before in (low-as (c .before .x2 .given .1) (d .pre .0), size-of _ (c .before .x2 .given .1) (d .pre .1))
 
 returns-2 : tie.Need-returns-2
 returns-2 c = answer-as (c .before .before .x2 .given .1) (c .slot-given .ensures)
@@ -43,10 +44,16 @@ wide64-requires-2 : tie.Need-wide64-requires-2
 wide64-requires-2 c κs = search needs
 
 mul-t14 : tie.Need-mul-t14
-mul-t14 c = let r : (_ < 8192) × (_ ≤ 511) = low-as (c .before .before .before .x4 .given .1) (c .before .before .before .before .before .pre .0) in let a = r .0 in let b = r .1 in let d = c .wide642 .ensures in let e = c .before .wide64 .ensures in record { fits = omega arith }
+mul-t14 c =
+    let f = c .before .before .before .before .before in
+    let r : (_ < 8192) × (_ ≤ 511) = low-as (c .before .before .before .x4 .given .1) (f .pre .0) in let a = r .0 in let b = r .1 in
+    let d = c .wide642 .ensures in let e = c .before .wide64 .ensures in record { fits = omega arith }
 
 mul-t15 : tie.Need-mul-t15
-mul-t15 c = let r : (_ < 8192) × (_ ≤ 511) = low-as (c .before .before .before .x4 .given .1) (c .before .before .before .before .before .pre .0) in let a = r .0 in let b = r .1 in let d = c .wide642 .ensures in let e = c .before .wide64 .ensures in record { fits = omega arith }
+mul-t15 c =
+    let f = c .before .before .before .before .before in
+    let r : (_ < 8192) × (_ ≤ 511) = low-as (c .before .before .before .x4 .given .1) (f .pre .0) in let a = r .0 in let b = r .1 in
+    let d = c .wide642 .ensures in let e = c .before .wide64 .ensures in record { fits = omega arith }
 
 returns-4 : tie.Need-returns-4
 returns-4 c = answer-as (c .before .before .before .x4 .given .1) (large-is (c .wide642 .ensures) (c .before .wide64 .ensures))

@@ -16,7 +16,9 @@ put-bits-requires : tie.Need-put-bits-requires
 put-bits-requires c κs = let e = (pages-read _ (c .before .before .class-row .ensures) (c .before .wide16 .ensures)) in (omega arith, omega arith)
 
 class-words-requires : tie.Need-class-words-requires
-class-words-requires c κs = let e = (pages-read _ (c .before .before .before .before .before .before .class-row .ensures) (c .before .before .before .before .before .wide16 .ensures)) in (omega arith, omega arith, c .before .before .before .before .before .before .before .before .before .before .pre .0, e)
+class-words-requires c κs =
+    let d = c .before .before .before .before .before in let f = d .before in let g = f .before .before .before .before in
+    let e = (pages-read _ (f .class-row .ensures) (d .wide16 .ensures)) in (omega arith, omega arith, g .pre .0, e)
 
 mul-put-bit : tie.Need-mul-put-bit
 mul-put-bit c = search needs
@@ -34,7 +36,11 @@ same-length-3 : tie.Need-same-length-3
 same-length-3 c = search needs
 
 returns : tie.Need-returns
-returns c = new-run-is _ _ _ _ (c .before .before .before .before .before .before .before .before .before .before .before .before .before .before .before .before .before .pre .0) (pages-read _ (c .before .before .before .before .before .before .before .before .before .before .before .before .before .class-row .ensures) (c .before .before .before .before .before .before .before .before .before .before .before .before .wide16 .ensures)) _ _ _ (c .before .before .before .before .before .before .before .before .before .before .put-bits .ensures) (c .before .before .before .before .before .before .class-words .ensures) (c .before .before .put-bit .ensures)
+returns c =
+    let d = c .before .before .before .before .before .before in let e = d .before .before .before .before in let f = e .before .before in
+    let g = f .before in let j = g .before .before .before .before in
+    new-run-is _ _ _ _ (j .pre .0) (pages-read _ (g .class-row .ensures) (f .wide16 .ensures)) _ _ _ (e .put-bits .ensures)
+    (d .class-words .ensures) (c .before .before .put-bit .ensures)
 
 pub new-run-spec : {M : Type 1} → statement M
 new-run-spec =

@@ -17,13 +17,28 @@ wide16-requires : tie.Need-wide16-requires
 wide16-requires c κs = search needs
 
 slot-page-requires : tie.Need-slot-page-requires
-slot-page-requires c κs = (c .before .before .before .before .before .before .before .pre, class-low (c .before .before .before .if1 .taken) (c .before .before .class-of .ensures), slots-read _ (c .before .class-row .ensures) (c .wide16 .ensures))
+slot-page-requires c κs =
+    let d = c .before .before .before .before .before .before .before in (
+      d .pre,
+      class-low (c .before .before .before .if1 .taken) (c .before .before .class-of .ensures),
+      slots-read _
+          (c .before .class-row .ensures) (c .wide16 .ensures),
+    )
 
 plan-slot-requires : tie.Need-plan-slot-requires
-plan-slot-requires c κs = (c .before .before .before .before .before .before .before .before .pre, class-low (c .before .before .before .before .if1 .taken) (c .before .before .before .class-of .ensures), slots-read _ (c .before .before .class-row .ensures) (c .before .wide16 .ensures), c .slot-page .ensures)
+plan-slot-requires c κs =
+    let d = c .before .before .before .before .before .before .before .before in (
+      d .pre,
+      class-low (c .before .before .before .before .if1 .taken) (c .before .before .before .class-of .ensures),
+      slots-read _
+          (c .before .before .class-row .ensures) (c .before .wide16 .ensures),
+      c .slot-page .ensures,
+    )
 
 returns : tie.Need-returns
-returns c = plan-small _ _ _ _ _ (c .before .before .before .before .before .if1 .taken) (c .before .before .before .before .class-of .ensures) (c .plan-slot .ensures)
+returns c =
+    let d = c .before .before .before .before .before in
+    plan-small _ _ _ _ _ (d .if1 .taken) (c .before .before .before .before .class-of .ensures) (c .plan-slot .ensures)
 
 plan-large-requires : tie.Need-plan-large-requires
 plan-large-requires c κs = let a = admitted _ _ (c .before .before .before .before .pre) in let h = a .shape in (omega arith, omega arith, omega arith)

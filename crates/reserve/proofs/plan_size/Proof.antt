@@ -26,7 +26,9 @@ wide64-requires : tie.Need-wide64-requires
 wide64-requires c κs = search needs
 
 returns-2 : tie.Need-returns-2
-returns-2 c = size-as _ (c .before .before .before .before .x2 .given .1) (c .wide64 .ensures ∙ size-read _ (c .before .before .class-row .ensures) (c .before .wide16 .ensures))
+returns-2 c =
+    size-as _ (c .before .before .before .before .x2 .given .1) (c .wide64 .ensures ∙ size-read _ (c .before .before .class-row .ensures)
+    (c .before .wide16 .ensures))
 
 enum-known-x-3 : tie.Need-enum-known-x-3
 enum-known-x-3 c = search needs
@@ -41,7 +43,9 @@ wide64-requires-2 : tie.Need-wide64-requires-2
 wide64-requires-2 c κs = search needs
 
 returns-3 : tie.Need-returns-3
-returns-3 c = size-as _ (c .before .before .before .before .x3 .given .1) (c .wide642 .ensures ∙ size-read _ (c .before .before .class-row2 .ensures) (c .before .wide162 .ensures))
+returns-3 c =
+    size-as _ (c .before .before .before .before .x3 .given .1) (c .wide642 .ensures ∙ size-read _
+    (c .before .before .class-row2 .ensures) (c .before .wide162 .ensures))
 
 enum-known-x-4 : tie.Need-enum-known-x-4
 enum-known-x-4 c = search needs

@@ -12,8 +12,8 @@ mul-if1 c = let a = admitted _ _ (c .before .before .before .pre .0) in let h = 
 
 free-slot-requires : tie.Need-free-slot-requires
 free-slot-requires c κs =
-    let a = admitted _ _ (c .before .before .before .before .pre .0) in let h = a .shape in
-    (omega arith, omega arith, c .before .before .before .before .pre .2, class-few (c .before .before .before .before .pre .1) (c .before .before .before .before .pre .2))
+    let d = c .before .before .before .before in let a = admitted _ _ (d .pre .0) in let h = a .shape in
+    (omega arith, omega arith, d .pre .2, class-few (d .pre .1) (d .pre .2))
 
 returns : tie.Need-returns
 returns c = plan-in _ _ _ _ _ (c .before .before .before .before .before .pre .3) (c .before .if1 .taken) (c .free-slot .ensures)
@@ -34,13 +34,19 @@ enum-known-f : tie.Need-enum-known-f
 enum-known-f c = search needs
 
 returns-2 : tie.Need-returns-2
-returns-2 c = plan-new _ _ _ _ _ _ _ (c .before .before .before .before .before .before .before .before .before .before .pre .3) (c .before .before .before .before .before .before .if1 .left) (pages-read _ (c .before .before .before .before .before .class-row .ensures) (c .before .before .before .before .wide16 .ensures)) (c .before .before .before .find-pages .ensures) (c .before .f .given .1)
+returns-2 c =
+    let d = c .before .before .before .before .before in let e = d .before in let f = e .before .before .before .before in
+    plan-new _ _ _ _ _ _ _ (f .pre .3) (e .if1 .left) (pages-read _ (d .class-row .ensures)
+    (c .before .before .before .before .wide16 .ensures)) (c .before .before .before .find-pages .ensures) (c .before .f .given .1)
 
 enum-told : tie.Need-enum-told
 enum-told c = search needs
 
 returns-3 : tie.Need-returns-3
-returns-3 c = plan-none _ _ _ _ _ _ (c .before .before .before .before .before .before .before .before .before .pre .3) (c .before .before .before .before .before .if1 .left) (pages-read _ (c .before .before .before .before .class-row .ensures) (c .before .before .before .wide16 .ensures)) (c .before .before .find-pages .ensures) (c .enum-told .given .1)
+returns-3 c =
+    let d = c .before .before .before .before .before in let e = d .before .before .before .before in
+    plan-none _ _ _ _ _ _ (e .pre .3) (d .if1 .left) (pages-read _ (c .before .before .before .before .class-row .ensures)
+    (c .before .before .before .wide16 .ensures)) (c .before .before .find-pages .ensures) (c .enum-told .given .1)
 
 pub plan-slot-spec : {M : Type 1} → statement M
 plan-slot-spec =

@@ -32,7 +32,9 @@ same-length-6 : tie.Need-same-length-6
 same-length-6 c = search needs
 
 returns-2 : tie.Need-returns-2
-returns-2 c = reserve-served _ _ _ _ (c .before .before .before .before .before .before .before .before .before .before .before .admit .ensures) (c .before .before .before .before .before .before .before .before .before .before .if1 .left) (c .before .before .before .before .before .before .reserve-sound .ensures)
+returns-2 c =
+    let d = c .before .before .before .before .before .before in let e = d .before .before .before .before in let f = e .before in
+    reserve-served _ _ _ _ (f .admit .ensures) (e .if1 .left) (d .reserve-sound .ensures)
 
 pub reserve-spec : {M : Type 1} → statement M
 reserve-spec =

@@ -8,13 +8,20 @@ plan-for-requires : tie.Need-plan-for-requires
 plan-for-requires c κs = search needs
 
 perform-plan-requires : tie.Need-perform-plan-requires
-perform-plan-requires c κs = (c .before .before .before .before .before .before .before .before .before .before .pre, plan-good _ _ _ _ (c .before .before .before .plan-for .ensures) (c .before .before .before .before .before .before .before .before .before .before .pre))
+perform-plan-requires c κs =
+    let d = c .before .before .before .before .before .before .before .before .before .before in
+    (d .pre, plan-good _ _ _ _ (c .before .before .before .plan-for .ensures) (d .pre))
 
 plan-size-requires : tie.Need-plan-size-requires
-plan-size-requires c κs = plan-low _ _ _ _ (c .before .before .before .before .before .before .before .before .before .before .plan-for .ensures) (c .before .before .before .before .before .before .before .before .before .before .before .before .before .before .before .before .before .pre)
+plan-size-requires c κs =
+    let d = c .before .before .before .before .before .before .before .before .before .before in
+    let e = d .before .before .before .before .before .before .before in plan-low _ _ _ _ (d .plan-for .ensures) (e .pre)
 
 answer-of-requires : tie.Need-answer-of-requires
-answer-of-requires c κs = (plan-low _ _ _ _ (c .before .before .before .before .before .before .before .before .before .before .before .plan-for .ensures) (c .before .before .before .before .before .before .before .before .before .before .before .before .before .before .before .before .before .before .pre), c .plan-size .ensures)
+answer-of-requires c κs =
+    let d = c .before .before .before .before .before .before .before .before .before .before .before in
+    let e = d .before .before .before .before .before .before .before in
+    (plan-low _ _ _ _ (d .plan-for .ensures) (e .pre), c .plan-size .ensures)
 
 same-length : tie.Need-same-length
 same-length c = search needs
@@ -26,7 +33,9 @@ same-length-3 : tie.Need-same-length-3
 same-length-3 c = search needs
 
 returns : tie.Need-returns
-returns c = worked _ _ _ _ (c .before .before .before .before .before .before .before .before .before .before .before .before .plan-for .ensures) _ _ (c .answer-of .ensures) (c .before .before .before .before .before .before .before .before .perform-plan .ensures)
+returns c =
+    let d = c .before .before .before .before .before .before .before .before in let e = d .before .before .before .before in
+    worked _ _ _ _ (e .plan-for .ensures) _ _ (c .answer-of .ensures) (d .perform-plan .ensures)
 
 pub reserve-sound-spec : {M : Type 1} → statement M
 reserve-sound-spec =

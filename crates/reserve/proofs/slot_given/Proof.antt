@@ -18,10 +18,14 @@ mul-t8 : tie.Need-mul-t8
 mul-t8 c = search needs
 
 mul-t9 : tie.Need-mul-t9
-mul-t9 c = let m = slot-room (c .before .before .before .pre .0 .1) (c .before .before .before .pre .0 .2) (c .before .wide642 .ensures) (c .before .before .before .pre .1) in record { fits = omega arith }
+mul-t9 c =
+    let d = c .before .before .before in let m = slot-room (d .pre .0 .1) (d .pre .0 .2) (c .before .wide642 .ensures) (d .pre .1) in
+    record { fits = omega arith }
 
 add-t10 : tie.Need-add-t10
-add-t10 c = let m = slot-room (c .before .before .before .pre .0 .1) (c .before .before .before .pre .0 .2) (c .before .wide642 .ensures) (c .before .before .before .pre .1) in let k = c .before .before .wide64 .ensures in record { fits = omega arith }
+add-t10 c =
+    let d = c .before .before .before in let m = slot-room (d .pre .0 .1) (d .pre .0 .2) (c .before .wide642 .ensures) (d .pre .1) in
+    let k = c .before .before .wide64 .ensures in record { fits = omega arith }
 
 returns : tie.Need-returns
 returns c = slot-is (c .wide643 .ensures) (c .before .before .wide64 .ensures) (c .before .wide642 .ensures) (c .before .before .before .pre .1)

@@ -16,16 +16,25 @@ wide16-requires : tie.Need-wide16-requires
 wide16-requires c κs = search needs
 
 count-bits-requires : tie.Need-count-bits-requires
-count-bits-requires c κs = let m = slots-few _ (row-as _ (c .before .enum-told .given .1) (c .before .before .before .before .pre .3)) (c .wide16 .ensures) in (omega arith, omega arith)
+count-bits-requires c κs =
+    let m = slots-few _ (row-as _ (c .before .enum-told .given .1) (c .before .before .before .before .pre .3)) (c .wide16 .ensures) in
+    (omega arith, omega arith)
 
 wide16-requires-2 : tie.Need-wide16-requires-2
 wide16-requires-2 c κs = search needs
 
 mul-t8 : tie.Need-mul-t8
-mul-t8 c = let m = bytes-few _ _ _ (row-as _ (c .before .before .before .enum-told .given .1) (c .before .before .before .before .before .before .pre .3)) (c .before .before .wide16 .ensures) (c .before .count-bits .ensures) (c .wide162 .ensures) in record { fits = omega arith }
+mul-t8 c =
+    let d = c .before .before .before .before .before .before in
+    let m = bytes-few _ _ _ (row-as _ (c .before .before .before .enum-told .given .1) (d .pre .3)) (c .before .before .wide16 .ensures)
+    (c .before .count-bits .ensures) (c .wide162 .ensures) in
+    record { fits = omega arith }
 
 returns : tie.Need-returns
-returns c = tally-class _ _ _ _ (c .before .before .before .enum-told .given .1) (row-as _ (c .before .before .before .enum-told .given .1) (c .before .before .before .before .before .before .pre .3)) (c .before .before .wide16 .ensures) (c .before .count-bits .ensures) (c .wide162 .ensures)
+returns c =
+    let d = c .before .before .before in let e = d .before .before .before in
+    tally-class _ _ _ _ (d .enum-told .given .1) (row-as _ (d .enum-told .given .1) (e .pre .3)) (c .before .before .wide16 .ensures)
+    (c .before .count-bits .ensures) (c .wide162 .ensures)
 
 enum-known-k : tie.Need-enum-known-k
 enum-known-k c = search needs

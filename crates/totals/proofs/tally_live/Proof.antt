@@ -37,22 +37,47 @@ array-copy-out-row : tie.Need-array-copy-out-row Inv-loop μ-loop
 array-copy-out-row c = let f = told-few _ _ _ (c .before .kind-at .ensures) in omega arith
 
 page-tally-requires : tie.Need-page-tally-requires Inv-loop μ-loop
-page-tally-requires c κs = let s = admitted _ _ (c .before .before .before .before .before .before .before .before .before .pre) .shape in (omega arith, omega arith, told-few _ _ _ (c .before .before .kind-at .ensures) .1, row-read _ _ _ _ (c .before .before .before .before .before .class-rows .ensures) refl (c .before .class-in .ensures))
+page-tally-requires c κs =
+    let d = c .before .before .before .before .before in let e = d .before .before .before .before in
+    let s = admitted _ _ (e .pre) .shape in (
+      omega arith,
+      omega arith,
+      told-few _ _ _ (c .before .before .kind-at .ensures) .1,
+      row-read _ _ _ _ (d .class-rows .ensures) refl
+          (c .before .class-in .ensures),
+    )
 
 add-blocks : tie.Need-add-blocks Inv-loop μ-loop
-add-blocks c = let b = bounded _ _ (c .before .before .before .before .before .before .before .before .before .before .before .pre) in let s = admitted _ _ (c .before .before .before .before .before .before .before .before .before .before .before .pre) .shape in let o = counted-on (c .before .before .before .before .before .before .loop .inv .2) (omega arith) (c .before .before .before .before .kind-at .ensures) (c .before .page-tally .ensures) in let a = o .number in record { fits = omega arith }
+add-blocks c =
+    let d = c .before .before .before .before .before .before in let e = d .before .before .before .before .before in
+    let b = bounded _ _ (e .pre) in let s = admitted _ _ (e .pre) .shape in
+    let o = counted-on (d .loop .inv .2) (omega arith) (c .before .before .before .before .kind-at .ensures)
+    (c .before .page-tally .ensures) in
+    let a = o .number in record { fits = omega arith }
 
 add-bytes : tie.Need-add-bytes Inv-loop μ-loop
-add-bytes c = let b = bounded _ _ (c .before .before .before .before .before .before .before .before .before .before .before .before .pre) in let s = admitted _ _ (c .before .before .before .before .before .before .before .before .before .before .before .before .pre) .shape in let o = counted-on (c .before .before .before .before .before .before .before .loop .inv .2) (omega arith) (c .before .before .before .before .before .kind-at .ensures) (c .before .before .page-tally .ensures) in let a = o .sum in record { fits = omega arith }
+add-bytes c =
+    let d = c .before .before .before .before .before in let e = d .before .before in let f = e .before .before .before .before .before in
+    let b = bounded _ _ (f .pre) in let s = admitted _ _ (f .pre) .shape in
+    let o = counted-on (e .loop .inv .2) (omega arith) (d .kind-at .ensures) (c .before .before .page-tally .ensures) in let a = o .sum in
+    record { fits = omega arith }
 
 add-g : tie.Need-add-g Inv-loop μ-loop
-add-g c = let s = admitted _ _ (c .before .before .before .before .before .before .before .before .before .before .before .before .pre) .shape in record { fits = omega arith }
+add-g c =
+    let d = c .before .before .before .before .before .before .before .before .before .before .before .before in
+    let s = admitted _ _ (d .pre) .shape in record { fits = omega arith }
 
 loop-less : tie.Need-loop-less Inv-loop μ-loop
 loop-less c = search needs
 
 loop-again : tie.Need-loop-again Inv-loop μ-loop
-loop-again c = (omega arith, c .before .before .before .before .before .before .before .loop .inv .1, counted-on (c .before .before .before .before .before .before .before .loop .inv .2) (omega arith) (c .before .before .before .before .before .kind-at .ensures) (c .before .before .page-tally .ensures))
+loop-again c =
+    let d = c .before .before .before .before .before in let e = d .before .before in (
+      omega arith,
+      e .loop .inv .1,
+      counted-on (e .loop .inv .2) (omega arith) (d .kind-at .ensures)
+          (c .before .before .page-tally .ensures),
+    )
 
 returns : tie.Need-returns Inv-loop μ-loop
 returns c = counted-done (c .before .loop .inv .2) (omega arith)

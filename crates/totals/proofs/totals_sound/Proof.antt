@@ -23,13 +23,19 @@ wide64-requires-2 : tie.Need-wide64-requires-2
 wide64-requires-2 c κs = search needs
 
 sub-wide64 : tie.Need-sub-wide64
-sub-wide64 c = let h = free-read _ _ (c .before .before .before .before .before .before .before .pre) _ _ refl (c .before .before .count-bits .ensures) in omega arith
+sub-wide64 c =
+    let d = c .before .before .before .before .before .before .before in
+    let h = free-read _ _ (d .pre) _ _ refl (c .before .before .count-bits .ensures) in omega arith
 
 wide64-requires-3 : tie.Need-wide64-requires-3
 wide64-requires-3 c κs = search needs
 
 returns : tie.Need-returns
-returns c = let h = free-read _ _ (c .before .before .before .before .before .before .before .before .pre) _ _ refl (c .before .before .before .count-bits .ensures) in totals-made _ _ _ _ _ _ (c .before .before .before .before .tally-live .ensures) (c .before .before .wide64 .ensures) (c .before .wide642 .ensures) (c .wide643 .ensures) (omega arith)
+returns c =
+    let d = c .before .before .before .before .before .before .before .before in
+    let h = free-read _ _ (d .pre) _ _ refl (c .before .before .before .count-bits .ensures) in
+    totals-made _ _ _ _ _ _ (c .before .before .before .before .tally-live .ensures) (c .before .before .wide64 .ensures)
+    (c .before .wide642 .ensures) (c .wide643 .ensures) (omega arith)
 
 pub totals-sound-spec : {M : Type 1} → statement M
 totals-sound-spec =
