@@ -39,6 +39,11 @@ void expect(bool right, const char *format, ...)
     va_end(details);
 }
 
+void expect_least(unsigned long count, unsigned long least, const char *what)
+{
+    expect(count >= least, "only %lu %s", count, what);
+}
+
 void group_end(void)
 {
     expect(group.trials > 0, "nothing was tried");

@@ -28,6 +28,9 @@ void group_begin(const char *family, const char *name);
 /* Notes, printf-like, what is wrong if it is not right. */
 void expect(bool right, const char *format, ...);
 
+/* So many of what is named, or more. */
+void expect_least(unsigned long count, unsigned long least, const char *what);
+
 void group_end(void);
 
 /* Prints 'PROGRAM: N passed, M failed'; answers the exit status. */

@@ -132,7 +132,7 @@ static void test_spoilt_logs(const struct drawer *drawer)
         draft_spoil(&draft);
         refused += expect_draft(drawer).refusal != 0;
     }
-    expect(refused > 200, "only %u logs are refused", refused);
+    expect_least(refused, 200, "logs refused");
     group_end();
 }
 

@@ -49,11 +49,6 @@ static struct lensember_part try_part(const struct twin *twin, uint64_t ear, uin
     return right;
 }
 
-static void expect_unchanged(const struct twin *twin)
-{
-    expect(lent_equal(&twin->lent, &twin->right), "c %zu: a buffer was changed", twin->model.c);
-}
-
 /* "Only the chosen arena's length is checked." */
 static size_t any_length(const struct twin *twin)
 {
@@ -90,21 +85,6 @@ static struct lensember_part try_ear(const struct twin *twin, uint64_t ear, uint
 }
 
 /* ---- Pools ----------------------------------------------------------------------- */
-
-typedef void pool_test(struct twin *twin);
-
-static void on_pools(unsigned step, pool_test *test)
-{
-    for (size_t c = 1; c <= MAX_CHUNKS; c++) {
-        struct twin *twin = twin_new(c);
-        for (size_t i = rng_below(&rng, step); i < recipe_count; i += step) {
-            twin_generate(twin, &recipes[i]);
-            test(twin);
-            expect_unchanged(twin);
-        }
-        twin_free(twin);
-    }
-}
 
 /* Parts lie apart, inside the arena and off page 0 of each chunk. */
 static uint64_t expect_apart(const struct twin *twin, struct lensember_part part, uint64_t behind)
@@ -215,7 +195,7 @@ static void test_sample(void)
                    "ear %" PRIu64 " place %" PRIu64, ear, rows[i][0]);
         }
     }
-    expect_unchanged(twin);
+    expect_alike(twin);
     group_end();
     twin_free(twin);
 }
@@ -223,7 +203,7 @@ static void test_sample(void)
 static const struct {
     const char *name;
     unsigned step; /* one recipe in so many */
-    pool_test *run;
+    twin_test *run;
 } tests[] = {
     {"live-blocks", 3, parts_of_live_blocks},
     {"hostile-places", 3, parts_at_hostile_places},
@@ -238,7 +218,7 @@ void test_parts(void)
     test_sample();
     for (size_t i = 0; i < COUNT(tests); i++) {
         group_begin("bytes", tests[i].name);
-        on_pools(tests[i].step, tests[i].run);
+        on_each_recipe(tests[i].step, tests[i].run);
         group_end();
     }
 }

@@ -322,7 +322,7 @@ static void test_runs(void)
         without_room = 0;
         for (unsigned round = 0; round < 20; round++)
             run_series(&all_series[i], 10000);
-        expect(without_room >= 100, "only %lu runs without room", without_room);
+        expect_least(without_room, 100, "runs without room");
         group_end();
     }
 }

@@ -37,23 +37,8 @@ void expect_totals(struct twin *twin, uint64_t blocks, uint64_t bytes, uint64_t 
 
 /* ---- Pools ------------------------------------------------------------------- */
 
-typedef void pool_test(struct twin *twin);
-
-/* Pools of every count of chunks and, for each, one recipe in so many. */
-static void on_each_recipe(unsigned step, pool_test *test)
-{
-    for (size_t c = 1; c <= MAX_CHUNKS; c++) {
-        struct twin *twin = twin_new(c);
-        for (size_t i = rng_below(&rng, step); i < recipe_count; i += step) {
-            twin_generate(twin, &recipes[i]);
-            test(twin);
-        }
-        twin_free(twin);
-    }
-}
-
 /* Runs of one class only, all slots taken, some or none. */
-static void on_each_class(size_t c, pool_test *test)
+static void on_each_class(size_t c, twin_test *test)
 {
     struct twin *twin = twin_new(c);
 
@@ -69,7 +54,7 @@ static void on_each_class(size_t c, pool_test *test)
 }
 
 /* Without any block: fresh, then with runs of slots that are all free. */
-static void on_empty_pools(pool_test *test)
+static void on_empty_pools(twin_test *test)
 {
     for (size_t c = 1; c <= MAX_CHUNKS; c++) {
         struct twin *twin = twin_new(c);

@@ -602,16 +602,16 @@ static void test_enough(void)
 {
     group_begin("log", "enough-of-each-answer");
     group.trials = replay_tally.fields;
-    expect(replay_tally.fields >= 300000, "only %lu fields", replay_tally.fields);
-    expect(replay_tally.logs[0] >= 3000, "only %lu good logs", replay_tally.logs[0]);
-    expect(replay_tally.logs[8] >= 5000, "only %lu cut short", replay_tally.logs[8]);
-    expect(replay_tally.logs[9] >= 10000, "only %lu gone wrong", replay_tally.logs[9]);
-    expect(replay_tally.reserves[0] >= 100000, "only %lu served", replay_tally.reserves[0]);
-    expect(replay_tally.reserves[3] >= 1000, "only %lu too big", replay_tally.reserves[3]);
-    expect(replay_tally.reserves[4] >= 1000, "only %lu without room", replay_tally.reserves[4]);
-    expect(replay_tally.releases[0] >= 30000, "only %lu released", replay_tally.releases[0]);
-    expect(replay_tally.releases[5] >= 5000, "only %lu at no block", replay_tally.releases[5]);
-    expect(replay_tally.releases[6] >= 1000, "only %lu at free slots", replay_tally.releases[6]);
+    expect_least(replay_tally.fields, 300000, "fields");
+    expect_least(replay_tally.logs[0], 3000, "good logs");
+    expect_least(replay_tally.logs[8], 5000, "cut short");
+    expect_least(replay_tally.logs[9], 10000, "gone wrong");
+    expect_least(replay_tally.reserves[0], 100000, "served");
+    expect_least(replay_tally.reserves[3], 1000, "too big");
+    expect_least(replay_tally.reserves[4], 1000, "without room");
+    expect_least(replay_tally.releases[0], 30000, "released");
+    expect_least(replay_tally.releases[5], 5000, "at no block");
+    expect_least(replay_tally.releases[6], 1000, "at free slots");
     group_end();
 }
 

@@ -696,24 +696,24 @@ static unsigned long run_mixes(void)
 
 static void expect_enough_changes(void)
 {
-    expect(tally.reserve[0] >= 100000, "only %lu served", tally.reserve[0]);
-    expect(tally.reserve[3] >= 2000, "only %lu too big", tally.reserve[3]);
-    expect(tally.reserve[4] >= 2000, "only %lu without room", tally.reserve[4]);
-    expect(tally.release[0] >= 100000, "only %lu released", tally.release[0]);
-    expect(tally.release[5] >= 10000, "only %lu at no block", tally.release[5]);
-    expect(tally.release[6] >= 2000, "only %lu at free slots", tally.release[6]);
+    expect_least(tally.reserve[0], 100000, "served");
+    expect_least(tally.reserve[3], 2000, "too big");
+    expect_least(tally.reserve[4], 2000, "without room");
+    expect_least(tally.release[0], 100000, "released");
+    expect_least(tally.release[5], 10000, "at no block");
+    expect_least(tally.release[6], 2000, "at free slots");
 }
 
 static void expect_enough_reads(void)
 {
-    expect(tally.block_size[0] >= 20000, "only %lu sizes", tally.block_size[0]);
-    expect(tally.block_size[5] >= 4000, "only %lu sizes of no block", tally.block_size[5]);
-    expect(tally.block_size[6] >= 1000, "only %lu sizes of free slots", tally.block_size[6]);
-    expect(tally.next[0] >= 100000, "only %lu calls of next", tally.next[0]);
-    expect(tally.next_none >= 10000, "only %lu without a block", tally.next_none);
-    expect(tally.totals[0] >= 20000, "only %lu totals", tally.totals[0]);
-    expect(tally.census[0] >= 10000, "only %lu censuses", tally.census[0]);
-    expect(tally.census[7] >= 6000, "only %lu in short rooms", tally.census[7]);
+    expect_least(tally.block_size[0], 20000, "sizes");
+    expect_least(tally.block_size[5], 4000, "sizes of no block");
+    expect_least(tally.block_size[6], 1000, "sizes of free slots");
+    expect_least(tally.next[0], 100000, "calls of next");
+    expect_least(tally.next_none, 10000, "without a block");
+    expect_least(tally.totals[0], 20000, "totals");
+    expect_least(tally.census[0], 10000, "censuses");
+    expect_least(tally.census[7], 6000, "in short rooms");
 }
 
 static void test_random_series(void)
@@ -724,7 +724,7 @@ static void test_random_series(void)
     calls = run_mixes();
     group_begin("random", "a-million-and-enough-of-each-answer");
     group.trials = calls;
-    expect(calls >= 1000000, "only %lu calls", calls);
+    expect_least(calls, 1000000, "calls");
     expect_enough_changes();
     expect_enough_reads();
     group_end();

@@ -64,6 +64,25 @@ void twin_settle(struct twin *twin)
     lent_copy(&twin->lent, &twin->right);
 }
 
+void expect_alike(const struct twin *twin)
+{
+    expect(lent_equal(&twin->lent, &twin->right), "c %zu: a buffer is not as it was",
+           twin->model.c);
+}
+
+void on_each_recipe(unsigned step, twin_test *test)
+{
+    for (size_t c = 1; c <= MAX_CHUNKS; c++) {
+        struct twin *twin = twin_new(c);
+        for (size_t i = rng_below(&rng, step); i < recipe_count; i += step) {
+            twin_generate(twin, &recipes[i]);
+            test(twin);
+            expect_alike(twin);
+        }
+        twin_free(twin);
+    }
+}
+
 void twin_generate(struct twin *twin, const struct recipe *recipe)
 {
     generate(&twin->lent, recipe, &rng);

@@ -26,6 +26,13 @@ void twin_free(struct twin *twin);
 void twin_generate(struct twin *twin, const struct recipe *recipe);
 void twin_settle(struct twin *twin);
 
+/* The lent buffers are those of the model. */
+void expect_alike(const struct twin *twin);
+
+/* A test that leaves the two alike, on pools of every count of chunks and, for each, one recipe in so many. */
+typedef void twin_test(struct twin *twin);
+void on_each_recipe(unsigned step, twin_test *test);
+
 /* These count as trials. Answered is what the model says. */
 void twin_fresh(struct twin *twin);
 struct pool_reserved twin_reserve(struct twin *twin, uint64_t size);
