@@ -4,16 +4,18 @@ use mathlib.Core.Path.{_≡_, refl, ap, _∙_}
 use mathlib.Core.Logic.{by-cases}
 use mathlib.Core.Bool.{Bool, true, false, cond}
 use mathlib.Core.List.{List, [], _∷_}
-use Prim.Native.Nat.{ℕ, zero, suc, _+_, _*_, _-_, _≤_, _<_}
+use Prim.Native.Nat.{ℕ, zero, suc, _+_, _*_, _-_, _/_, _^_, _≤_, _<_}
 use native.Mathlib.Decide.{decLt}
-use native.Mathlib.Nat.{zero-add, mul-le-mul-right}
+use native.Mathlib.Nat.{mul-le-mul-right}
 use native.Mathlib.Omega.{arith}
-use borrow.Author.Tests.{leb-true, leb-false}
+use borrow.Author.Tests.{le-leb, lt-leb, leb-true, leb-false}
+use lib.Count.{leadingZeros, leading-top}
 use lib.Dec.{T, leb, ltb, leb→le, ltb→lt, lit<}
+use lib.Pow.{pow-mono}
 use lib.ListN.{length, getD, List·getD-eq-default}
 use Rattle.classes.specs.declared.Row.{Row}
-use Rattle.classes.specs.Classes.{rowOf, rows, rowAt, size, slots, pages, firstHolding, classFor, entries, RowFacts, Smallest}
-use Rattle.classes.proofs.Entries.{every, at, tabled-at, tabled-long}
+use Rattle.classes.specs.Classes.{rowOf, rows, rowAt, size, slots, pages, firstHolding, classFor, digits, calculated, tabled, RowFacts, Smallest}
+use Rattle.classes.proofs.Entries.{every, at, same-at}
 
 -- ---- the 30 rows
 
@@ -171,13 +173,33 @@ class-smallest n h =
     let below : classFor n < 30 = by-cases (decLt (classFor n) 30) (λ l. l) (λ l. absurd (omega (arith, f .smaller 29 (omega arith)))) in
     record { class = below; holds = f .holds (classFor n) (omega arith) below; smaller = λ a l. f .smaller a (omega arith) }
 
--- ---- the table of all entries
+-- ---- the class by arithmetic
 
-module _ (t : List ℕ) (h : t ≡ entries) where
-  pub table-long : length t ≡ 3073
-  unfolding entries
-  table-long = ap length h ∙ tabled-long classFor 3073 0
+-- the calculation gives the smallest class at all 3,073 sizes: one computed test
+pub all-calculated : tabled calculated 0 3073 ≡ tabled classFor 0 3073
+unfolding rows firstHolding classFor calculated leadingZeros
+all-calculated = refl
 
-  pub table-at : (n r : ℕ) → n ≤ 3072 → r ≡ getD t n 0 → r ≡ classFor n
-  unfolding entries
-  table-at n r l e = e ∙ ap (λ (u : List ℕ). getD u n 0) h ∙ tabled-at classFor 3073 0 n (omega arith) ∙ ap classFor (zero-add n)
+module _ {n : ℕ} (most : n ≤ 3072) where
+  by-calculation : calculated n ≡ classFor n
+  by-calculation = same-at calculated classFor 3073 all-calculated n (omega arith)
+
+  -- a class for every 8 bytes
+  pub up-to-64 : n ≤ 64 → (n - 1) / 8 ≡ classFor n
+  unfolding calculated
+  up-to-64 h = rw (le-leb n 64 h) at by-calculation
+
+  -- four classes to each doubling
+  pub above-64 : 64 < n → (low : ℕ) → low ≡ digits (n - 1) - 3 → (n - 1) / 2 ^ low + 4 * (low - 3) ≡ classFor n
+  unfolding calculated
+  above-64 h low e = rw e (rw (lt-leb n 64 h) at by-calculation)
+
+module _ {m : ℕ} (least : 64 ≤ m) (most : m ≤ 3072) where
+  pub many-digits : 7 ≤ digits m
+  many-digits =
+      let t = leading-top 64 m (omega arith) (omega arith) in
+      by-cases (decLt (t .0) 6) (λ l. absurd (omega (arith, t .3, pow-mono {i = suc (t .0)} {j = 6} l))) (λ l. omega (arith, t .1))
+
+  -- k of them are taken off
+  pub digits-left : (j k : ℕ) → j + k ≤ 7 → j ≤ digits m - k
+  digits-left j k h = omega (arith, many-digits)

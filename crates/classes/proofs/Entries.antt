@@ -1,6 +1,6 @@
 -- A rule of a table, shown at all of its entries by one test that antt computes, one entry after the other.
 -- Assumes nothing.
-use mathlib.Core.Path.{_≡_, refl, _∙_, ap, subst, sym}
+use mathlib.Core.Path.{_≡_, _∙_, ap, subst, sym}
 use mathlib.Core.Bool.{Bool, true, false, _&&_}
 use mathlib.Core.List.{List, [], _∷_}
 use Prim.Native.Nat.{ℕ, zero, suc, _+_, _<_}
@@ -33,12 +33,16 @@ module _ {A : Type 0} (f : ℕ → A → Bool) (d : A) where
   pub at : (xs : List A) → T (every f 0 xs) → (k : ℕ) → k < length xs → T (f k (getD xs k d))
   at xs t k h = subst (λ (m : ℕ). T (f m (getD xs k d))) (zero-add k) (from xs 0 t k h)
 
--- a list that computes to what f gives at each number keeps the rule f at each of its entries
-pub tabled-at : (f : ℕ → ℕ) (m i k : ℕ) → k < m → getD (tabled f i m) k 0 ≡ f (i + k)
+-- ---- what f gives at m numbers from i on
+
+tabled-at : (f : ℕ → ℕ) (m i k : ℕ) → k < m → getD (tabled f i m) k 0 ≡ f (i + k)
 tabled-at f zero i k h = absurd (not-suc-le-zero h)
 tabled-at f (suc m) i zero h = ap f (sym (add-zero i))
 tabled-at f (suc m) i (suc k) h = tabled-at f m (suc i) k (le-of-suc-le-suc h) ∙ ap f (suc-add i k ∙ sym (add-suc i k))
 
-pub tabled-long : (f : ℕ → ℕ) (m i : ℕ) → length (tabled f i m) ≡ m
-tabled-long f zero i = refl
-tabled-long f (suc m) i = ap suc (tabled-long f m (suc i))
+first-at : (f : ℕ → ℕ) (m k : ℕ) → k < m → getD (tabled f 0 m) k 0 ≡ f k
+first-at f m k h = tabled-at f m 0 k h ∙ ap f (zero-add k)
+
+-- where f and g give the same m numbers from 0 on, they agree at each
+pub same-at : (f g : ℕ → ℕ) (m : ℕ) → tabled f 0 m ≡ tabled g 0 m → (k : ℕ) → k < m → f k ≡ g k
+same-at f g m e k h = sym (first-at f m k h) ∙ ap (λ (l : List ℕ). getD l k 0) e ∙ first-at g m k h

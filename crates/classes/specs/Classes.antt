@@ -2,7 +2,8 @@
 -- Assumes nothing.
 use mathlib.Core.Bool.{cond}
 use mathlib.Core.List.{List, [], _∷_}
-use Prim.Native.Nat.{ℕ, zero, suc, _*_, _≤_, _<_}
+use Prim.Native.Nat.{ℕ, zero, suc, _+_, _-_, _*_, _/_, _^_, _≤_, _<_}
+use lib.Count.{leadingZeros}
 use lib.Dec.{leb}
 use lib.ListN.{getD}
 use Rattle.classes.specs.declared.Row.{Row}
@@ -72,9 +73,16 @@ abbrev pub tabled : (ℕ → ℕ) → ℕ → ℕ → List ℕ
 tabled f i zero = []
 tabled f i (suc m) = f i ∷ tabled f (suc i) m
 
--- the classes that serve requests of 0, 1, .. 3,072 bytes
-unfoldable pub entries : List ℕ
-entries = tabled classFor 0 3073
+-- how many binary digits n has
+abbrev pub digits : ℕ → ℕ
+digits n = 64 - leadingZeros 64 n
+
+-- PHP 7's calculation of that class (zend_mm_small_size_to_bin): one for every 8 bytes up to 64, then four to each doubling
+unfoldable pub calculated : ℕ → ℕ
+calculated n =
+    let last = n - 1 in
+    let low = digits last - 3 in
+    cond (leb n 64) (last / 8) (last / 2 ^ low + 4 * (low - 3))
 
 -- what each row keeps to: the pages of a run hold its slots, and not one slot more; and the bounds that the records rely on
 pub record RowFacts (r : Row) : Type 0 where

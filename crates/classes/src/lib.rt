@@ -1,12 +1,10 @@
 // The 30 size classes, as constant rows, and the class that serves a request.
 ghost use mathlib.Core.Path.{_≡_};
-ghost use Prim.Native.Nat.{_<_};
-ghost use Rattle.classes.specs.Classes.{rows, rowAt};
+ghost use Prim.Native.Nat.{_<_, _≤_};
+ghost use Rattle.classes.specs.Classes.{rows, rowAt, classFor};
 
 mod table;
 
-pub use table::class_in;
-pub use table::class_of;
 pub use table::class_table;
 
 // One size class: slot size in bytes, slots in a run, pages in a run.
@@ -182,4 +180,22 @@ pub fn class_row(b: usize) -> Row
     ensures { λ r. ⌜ r ≡ rowAt b ⌝ }
 {
     ROWS[b]
+}
+
+// The class that serves a request of this size, by PHP 7's calculation: a class for every 8 bytes up to 64, then four to each doubling. The
+// three highest digits of the last byte's offset tell which of the four, and how many digits are below them tells which doubling.
+pub fn class_of(size: usize) -> usize
+    requires { ⌜ size ≤ 3072 ⌝ }
+    ensures { λ r. ⌜ r ≡ classFor size ⌝ }
+{
+    if size == 0 {
+        return 0;
+    }
+    let last = size - 1;
+    if size <= 64 {
+        return last / 8;
+    }
+    let digits = 64 - usize::leading_zeros(last) as usize;
+    let low = digits - 3;
+    (last >> low) + 4 * (low - 3)
 }

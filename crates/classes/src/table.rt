@@ -1,8 +1,7 @@
 // The class of each request size from 0 to 3,072 bytes: the smallest class that holds it (document 01, "Numbers of the pool").
 // Behind the first and the last entry of each class stands its request size.
 ghost use mathlib.Core.Path.{_≡_};
-ghost use Prim.Native.Nat.{_≤_};
-ghost use Rattle.classes.specs.Classes.{classFor, entries};
+ghost use Rattle.classes.specs.Classes.{classFor, calculated, tabled};
 
 const CLASS_OF: [u8; 3073] = [
     0, // 0
@@ -3080,26 +3079,10 @@ const CLASS_OF: [u8; 3073] = [
     29, // 3072
 ];
 
-// All entries, for a caller that reads many: a constant is written out anew at each read by index.
+// All entries: the yardstick of the calculation. No call reads it.
 pub fn class_table() -> [u8; 3073]
-    ensures { λ r. ⌜ r ≡ entries ⌝ }
+    ensures { λ r. ⌜ r ≡ tabled classFor 0 3073 ⌝ }
+    ensures { λ r. ⌜ r ≡ tabled calculated 0 3073 ⌝ }
 {
     CLASS_OF
-}
-
-// The class that serves a request of this size, by the table.
-pub fn class_in(table: &[u8], size: usize) -> usize
-    requires { ⌜ (now table ≡ entries) × (size ≤ 3072) ⌝ }
-    ensures { λ r. ⌜ r ≡ classFor size ⌝ }
-{
-    widths::wide8(table[size])
-}
-
-// The class that serves a request of this size.
-pub fn class_of(size: usize) -> usize
-    requires { ⌜ size ≤ 3072 ⌝ }
-    ensures { λ r. ⌜ r ≡ classFor size ⌝ }
-{
-    let table = class_table();
-    class_in(&table, size)
 }

@@ -3,7 +3,7 @@
 ghost use mathlib.Core.Path.{_≡_};
 ghost use Prim.Native.Nat.{_+_, _*_, _<_, _≤_};
 ghost use lib.ListN.{length};
-ghost use Rattle.classes.specs.Classes.{size, entries};
+ghost use Rattle.classes.specs.Classes.{size};
 ghost use Rattle.records.specs.declared.Kind.the-variants.{Class};
 ghost use Rattle.records.specs.Kinds.{slotsOf};
 ghost use Rattle.records.specs.Pool.{pool};
@@ -134,7 +134,7 @@ fn carry_out(
     reserve::answer_of(x, bytes)
 }
 
-// The work of a reserve, with hints and the table of classes.
+// The work of a reserve, with hints.
 pub fn reserve_hinted(
     c: u64,
     bits: &mut [u64],
@@ -142,13 +142,12 @@ pub fn reserve_hinted(
     slots: &mut [u64],
     n: u64,
     hints: &mut [u64],
-    table: &[u8],
 ) -> reserve::Reserved
-    requires { ⌜ (admitOf c (pool (now bits) (now words) (now slots)) ≡ 0) × (Hints c (pool (now bits) (now words) (now slots)) (now hints)) × (now table ≡ entries) ⌝ }
+    requires { ⌜ (admitOf c (pool (now bits) (now words) (now slots)) ≡ 0) × (Hints c (pool (now bits) (now words) (now slots)) (now hints)) ⌝ }
     ensures { λ r. ⌜ (leaves r (pool (now (bits .exit)) (now (words .exit)) (now (slots .exit))) ≡ attempt c (pool (now (bits .entry)) (now (words .entry)) (now (slots .entry))) n) × (Hints c (pool (now (bits .exit)) (now (words .exit)) (now (slots .exit))) (now (hints .exit))) ⌝ }
 {
     if n <= 3072 {
-        let b = classes::class_in(table, n as usize);
+        let b = classes::class_of(n as usize);
         let k = hints[3900 + b] as usize;
         let g = marked_page(c, bits, words, slots, hints, b);
         if g < 512 * (c as usize) {

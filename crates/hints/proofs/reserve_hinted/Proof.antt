@@ -8,34 +8,34 @@ use native.Mathlib.Omega.{arith}
 use Rattle.hints.proofs.reserve_hinted.Statement.{statement}
 use Rattle.hints.proofs.reserve_hinted.Tie as tie
 
-class-in-requires : tie.Need-class-in-requires
-class-in-requires c κs = (c .before .before .before .before .before .before .pre .2, c .if1 .taken)
+class-of-requires : tie.Need-class-of-requires
+class-of-requires c κs = c .if1 .taken
 
 add-k : tie.Need-add-k
-add-k c = let b = class-low (c .before .if1 .taken) (c .class-in .ensures) in record { fits = omega arith }
+add-k c = let b = class-low (c .before .if1 .taken) (c .class-of .ensures) in record { fits = omega arith }
 
 mul-k : tie.Need-mul-k
-mul-k c = let b = class-low (c .before .if1 .taken) (c .class-in .ensures) in record { fits = omega arith }
+mul-k c = let b = class-low (c .before .if1 .taken) (c .class-of .ensures) in record { fits = omega arith }
 
 slice-read-k : tie.Need-slice-read-k
 slice-read-k c =
-    let d = c .before .before .before .before .before .before .before .before in
-    let b = class-low (c .before .before .if1 .taken) (c .before .class-in .ensures) in let n = d .pre .1 .cuts .long in omega arith
+    let d = c .before .before .before .before .before .before .before in
+    let b = class-low (c .before .before .if1 .taken) (c .before .class-of .ensures) in let n = d .pre .1 .cuts .long in omega arith
 
 marked-page-requires : tie.Need-marked-page-requires
 marked-page-requires c κs =
-    let d = c .before .before .before .before .before in let e = d .before in let f = e .before .before .before .before .before .before in
-    let s = admitted _ _ (f .pre .0) .shape in (f .pre .1, s .few, class-low (e .if1 .taken) (d .class-in .ensures))
+    let d = c .before .before .before .before .before in let e = d .before in let f = e .before .before .before .before .before in
+    let s = admitted _ _ (f .pre .0) .shape in (f .pre .1, s .few, class-low (e .if1 .taken) (d .class-of .ensures))
 
 mul-if2 : tie.Need-mul-if2
 mul-if2 c =
-    let d = c .before .before .before .before .before .before .before .before .before .before .before .before .before in
+    let d = c .before .before .before .before .before .before .before .before .before .before .before .before in
     let s = admitted _ _ (d .pre .0) .shape in record { fits = omega arith }
 
 take-slot-requires : tie.Need-take-slot-requires
 take-slot-requires c κs =
     let d = c .before .before .before .before .before in let e = d .before .before .before .before .before .before in let f = e .before in
-    let g = f .before .before .before .before .before .before in let b = class-low (f .if1 .taken) (e .class-in .ensures) in
+    let g = f .before .before .before .before .before in let b = class-low (f .if1 .taken) (e .class-of .ensures) in
     (g .pre .0, g .pre .1, b, g .pre .1 .cuts .counts _ b, d .marked-page .ensures, c .before .before .before .before .if2 .taken)
 
 same-length : tie.Need-same-length
@@ -54,25 +54,25 @@ returns : tie.Need-returns
 returns c =
     let d = c .before .before .before .before in
     let e = d .before .before .before .before .before .before .before .before .before .before .before .before in let f = e .before in (
-      attempted _ _ _ (plan-small _ _ _ _ _ (f .if1 .taken) (e .class-in .ensures) refl) (d .take-slot .ensures .0),
+      attempted _ _ _ (plan-small _ _ _ _ _ (f .if1 .taken) (e .class-of .ensures) refl) (d .take-slot .ensures .0),
       d .take-slot .ensures .1,
     )
 
 plan-slot-requires : tie.Need-plan-slot-requires
 plan-slot-requires c κs =
     let d = c .before .before .before .before .before .before .before .before .before .before in let e = d .before in
-    let f = e .before .before .before .before .before .before in let b = class-low (e .if1 .taken) (d .class-in .ensures) in
+    let f = e .before .before .before .before .before in let b = class-low (e .if1 .taken) (d .class-of .ensures) in
     (f .pre .0, b, f .pre .1 .cuts .counts _ b, c .before .before .before .before .marked-page .ensures)
 
 carry-out-requires : tie.Need-carry-out-requires
 carry-out-requires c κs =
     let d = c .before .before .before .before .before .before .before .before .before .before .before .before .before .before .before in
-    let e = d .before in let f = e .before .before .before .before .before .before in (
+    let e = d .before in let f = e .before .before .before .before .before in (
       f .pre .0,
       f .pre .1,
       (
         _,
-        plan-small _ _ _ _ _ (e .if1 .taken) (d .class-in .ensures)
+        plan-small _ _ _ _ _ (e .if1 .taken) (d .class-of .ensures)
             (c .before .before .before .before .plan-slot .ensures),
       ),
     )
@@ -93,18 +93,18 @@ returns-2 : tie.Need-returns-2
 returns-2 c =
     let d = c .before .before .before .before .before .before .before .before in let e = d .before .before .before .before .before in
     let f = e .before .before .before .before .before .before .before .before .before .before .before in let g = f .before in (
-      attempted _ _ _ (plan-small _ _ _ _ _ (g .if1 .taken) (f .class-in .ensures) (e .plan-slot .ensures)) (d .carry-out .ensures .0),
+      attempted _ _ _ (plan-small _ _ _ _ _ (g .if1 .taken) (f .class-of .ensures) (e .plan-slot .ensures)) (d .carry-out .ensures .0),
       d .carry-out .ensures .1,
     )
 
 plan-large-requires : tie.Need-plan-large-requires
 plan-large-requires c κs =
-    let d = c .before .before .before .before .before .before .before in let s = admitted _ _ (d .pre .0) .shape in
+    let d = c .before .before .before .before .before .before in let s = admitted _ _ (d .pre .0) .shape in
     let n = c .before .if1 .left in (omega arith, omega arith, omega arith)
 
 carry-out-requires-2 : tie.Need-carry-out-requires-2
 carry-out-requires-2 c κs =
-    let d = c .before .before .before .before .before .before in let e = d .before .before .before .before .before .before in
+    let d = c .before .before .before .before .before .before in let e = d .before .before .before .before .before in
     (e .pre .0, e .pre .1, (_, plan-large _ _ _ _ (d .if1 .left) (c .before .before .before .before .plan-large .ensures)))
 
 same-length-9 : tie.Need-same-length-9
@@ -129,7 +129,7 @@ pub reserve-hinted-spec : {M : Type 1} → statement M
 reserve-hinted-spec =
     tie.close
     (tie.spec
-    class-in-requires
+    class-of-requires
     add-k
     mul-k
     slice-read-k

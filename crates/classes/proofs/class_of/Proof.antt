@@ -1,0 +1,50 @@
+-- `classes::class_of` meets its contract: the calculation gives the smallest class.
+-- Assumes nothing.
+use borrow.Author.Needs.{needs}
+use mathlib.Core.Path.{refl}
+use native.Mathlib.Nat.{le-trans, lt-of-le-of-lt}
+use native.Mathlib.Omega.{arith}
+use lib.Count.{leading-le}
+use lib.Dec.{lit<, lit≤}
+use lib.Pow.{add-lt-pow, shr-le}
+use Rattle.classes.proofs.ClassLaws.{up-to-64, above-64, many-digits, digits-left}
+use Rattle.classes.proofs.class_of.Statement.{statement}
+use Rattle.classes.proofs.class_of.Tie as tie
+
+returns : tie.Need-returns
+returns c = let h = c .before .pre in omega (arith, c .if1 .taken, up-to-64 h (omega arith))
+
+sub-last : tie.Need-sub-last
+sub-last c = search needs
+
+returns-2 : tie.Need-returns-2
+returns-2 c = up-to-64 (c .before .before .pre) (c .if2 .taken)
+
+cast-digits : tie.Need-cast-digits
+cast-digits c = record { fits = lt-of-le-of-lt (leading-le _ _) (lit< tt) }
+
+sub-digits : tie.Need-sub-digits
+sub-digits c = leading-le _ _
+
+sub-low : tie.Need-sub-low
+sub-low c = let h = c .before .before .pre in le-trans (lit≤ tt) (many-digits (omega arith) (omega arith))
+
+shr-result : tie.Need-shr-result
+shr-result c = search needs
+
+sub-result : tie.Need-sub-result
+sub-result c = let h = c .before .before .pre in digits-left (omega arith) (omega arith) _ _ (lit≤ tt)
+
+mul-result : tie.Need-mul-result
+mul-result c = search needs
+
+add-result : tie.Need-add-result
+add-result c = let h = c .before .before .pre in record { fits = add-lt-pow 63 (lt-of-le-of-lt (shr-le _ _) (omega arith)) (omega arith) }
+
+returns-3 : tie.Need-returns-3
+returns-3 c = above-64 (c .before .before .pre) (c .if2 .left) _ refl
+
+pub class-of-spec : {M : Type 1} → statement M
+class-of-spec =
+    tie.close
+    (tie.spec returns sub-last returns-2 cast-digits sub-digits sub-low shr-result sub-result mul-result add-result returns-3)
