@@ -183,6 +183,24 @@ static void test_start_counts(void)
     group_end();
 }
 
+/* Every size that a slot serves, and one more, in one log: three chunks hold them. */
+static void test_every_small_size(void)
+{
+    enum { CHUNKS = 3, MOST_SMALL = 3072 };
+    struct stage *stage = stage_new(CHUNKS);
+
+    group_begin("log", "every-size-to-3073");
+    stage_prepare_anyhow(stage);
+    draft_clear(&draft);
+    draft_start(&draft, CHUNKS);
+    for (uint64_t size = 0; size <= MOST_SMALL + 1; size++)
+        draft_reserve(&draft, size);
+    draft_end(&draft);
+    expect(try_draft(stage).refusal == 0, "refused");
+    group_end();
+    stage_free(stage);
+}
+
 /* ---- Random logs ---------------------------------------------------------------------- */
 
 /* The more chunks, the longer a trial takes and the fewer are made. */
@@ -624,6 +642,7 @@ int main(int argc, char **argv)
     test_every_byte();
     test_headers();
     test_start_counts();
+    test_every_small_size();
     test_good_logs();
     test_spoilt_logs();
     test_noise();
