@@ -14,7 +14,7 @@ use lib.Dec.{T, leb, ltb, leb→le, ltb→lt, lit<}
 use lib.Pow.{pow-mono}
 use lib.ListN.{length, getD, List·getD-eq-default}
 use Rattle.classes.specs.declared.Row.{Row}
-use Rattle.classes.specs.Classes.{rowOf, rows, rowAt, size, slots, pages, firstHolding, classFor, digits, calculated, tabled, RowFacts, Smallest}
+use Rattle.classes.specs.Classes.{rowOf, rows, rowAt, size, slots, pages, firstHolding, classFor, bitLength, calculated, tabled, RowFacts, Smallest}
 use Rattle.classes.proofs.Entries.{every, at, same-at}
 
 -- ---- the 30 rows
@@ -190,16 +190,15 @@ module _ {n : ℕ} (most : n ≤ 3072) where
   up-to-64 h = rw (le-leb n 64 h) at by-calculation
 
   -- four classes to each doubling
-  pub above-64 : 64 < n → (low : ℕ) → low ≡ digits (n - 1) - 3 → (n - 1) / 2 ^ low + 4 * (low - 3) ≡ classFor n
+  pub above-64 : 64 < n → (low : ℕ) → low ≡ bitLength (n - 1) - 3 → (n - 1) / 2 ^ low + 4 * (low - 3) ≡ classFor n
   unfolding calculated
   above-64 h low e = rw e (rw (lt-leb n 64 h) at by-calculation)
 
 module _ {m : ℕ} (least : 64 ≤ m) (most : m ≤ 3072) where
-  pub many-digits : 7 ≤ digits m
-  many-digits =
+  pub long : 7 ≤ bitLength m
+  long =
       let t = leading-top 64 m (omega arith) (omega arith) in
       by-cases (decLt (t .0) 6) (λ l. absurd (omega (arith, t .3, pow-mono {i = suc (t .0)} {j = 6} l))) (λ l. omega (arith, t .1))
 
-  -- k of them are taken off
-  pub digits-left : (j k : ℕ) → j + k ≤ 7 → j ≤ digits m - k
-  digits-left j k h = omega (arith, many-digits)
+  pub length-left : (j k : ℕ) → j + k ≤ 7 → j ≤ bitLength m - k
+  length-left j k h = omega (arith, long)

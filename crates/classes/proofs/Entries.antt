@@ -40,9 +40,9 @@ tabled-at f zero i k h = absurd (not-suc-le-zero h)
 tabled-at f (suc m) i zero h = ap f (sym (add-zero i))
 tabled-at f (suc m) i (suc k) h = tabled-at f m (suc i) k (le-of-suc-le-suc h) ∙ ap f (suc-add i k ∙ sym (add-suc i k))
 
-first-at : (f : ℕ → ℕ) (m k : ℕ) → k < m → getD (tabled f 0 m) k 0 ≡ f k
-first-at f m k h = tabled-at f m 0 k h ∙ ap f (zero-add k)
+from-zero : (f : ℕ → ℕ) (m k : ℕ) → k < m → getD (tabled f 0 m) k 0 ≡ f k
+from-zero f m k h = tabled-at f m 0 k h ∙ ap f (zero-add k)
 
 -- where f and g give the same m numbers from 0 on, they agree at each
 pub same-at : (f g : ℕ → ℕ) (m : ℕ) → tabled f 0 m ≡ tabled g 0 m → (k : ℕ) → k < m → f k ≡ g k
-same-at f g m e k h = sym (first-at f m k h) ∙ ap (λ (l : List ℕ). getD l k 0) e ∙ first-at g m k h
+same-at f g m e k h = sym (from-zero f m k h) ∙ ap (λ (l : List ℕ). getD l k 0) e ∙ from-zero g m k h

@@ -68,21 +68,21 @@ firstHolding (r ∷ rs) b n = let later = firstHolding rs (suc b) n in cond (leb
 unfoldable pub classFor : ℕ → ℕ
 classFor n = firstHolding rows 0 n
 
--- what f gives at m numbers from i on
-abbrev pub tabled : (ℕ → ℕ) → ℕ → ℕ → List ℕ
-tabled f i zero = []
-tabled f i (suc m) = f i ∷ tabled f (suc i) m
-
--- how many binary digits n has
-abbrev pub digits : ℕ → ℕ
-digits n = 64 - leadingZeros 64 n
+-- the bit length of n, which has at most 64 bits
+abbrev pub bitLength : ℕ → ℕ
+bitLength n = 64 - leadingZeros 64 n
 
 -- PHP 7's calculation of that class (zend_mm_small_size_to_bin): one for every 8 bytes up to 64, then four to each doubling
 unfoldable pub calculated : ℕ → ℕ
 calculated n =
     let last = n - 1 in
-    let low = digits last - 3 in
+    let low = bitLength last - 3 in
     cond (leb n 64) (last / 8) (last / 2 ^ low + 4 * (low - 3))
+
+-- what f gives at m numbers from i on
+abbrev pub tabled : (ℕ → ℕ) → ℕ → ℕ → List ℕ
+tabled f i zero = []
+tabled f i (suc m) = f i ∷ tabled f (suc i) m
 
 -- what each row keeps to: the pages of a run hold its slots, and not one slot more; and the bounds that the records rely on
 pub record RowFacts (r : Row) : Type 0 where

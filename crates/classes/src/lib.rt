@@ -183,7 +183,7 @@ pub fn class_row(b: usize) -> Row
 }
 
 // The class that serves a request of this size, by PHP 7's calculation: a class for every 8 bytes up to 64, then four to each doubling. The
-// three highest digits of the last byte's offset tell which of the four, and how many digits are below them tells which doubling.
+// three highest bits of the last byte's offset tell which of the four, and how many bits are below them tells which doubling.
 pub fn class_of(size: usize) -> usize
     requires { ⌜ size ≤ 3072 ⌝ }
     ensures { λ r. ⌜ r ≡ classFor size ⌝ }
@@ -195,7 +195,7 @@ pub fn class_of(size: usize) -> usize
     if size <= 64 {
         return last / 8;
     }
-    let digits = 64 - usize::leading_zeros(last) as usize;
-    let low = digits - 3;
+    let length = 64 - usize::leading_zeros(last) as usize;
+    let low = length - 3;
     (last >> low) + 4 * (low - 3)
 }

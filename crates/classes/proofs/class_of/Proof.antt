@@ -7,7 +7,7 @@ use native.Mathlib.Omega.{arith}
 use lib.Count.{leading-le}
 use lib.Dec.{lit<, lit≤}
 use lib.Pow.{add-lt-pow, shr-le}
-use Rattle.classes.proofs.ClassLaws.{up-to-64, above-64, many-digits, digits-left}
+use Rattle.classes.proofs.ClassLaws.{up-to-64, above-64, long, length-left}
 use Rattle.classes.proofs.class_of.Statement.{statement}
 use Rattle.classes.proofs.class_of.Tie as tie
 
@@ -20,20 +20,20 @@ sub-last c = search needs
 returns-2 : tie.Need-returns-2
 returns-2 c = up-to-64 (c .before .before .pre) (c .if2 .taken)
 
-cast-digits : tie.Need-cast-digits
-cast-digits c = record { fits = lt-of-le-of-lt (leading-le _ _) (lit< tt) }
+cast-length : tie.Need-cast-length
+cast-length c = record { fits = lt-of-le-of-lt (leading-le _ _) (lit< tt) }
 
-sub-digits : tie.Need-sub-digits
-sub-digits c = leading-le _ _
+sub-length : tie.Need-sub-length
+sub-length c = leading-le _ _
 
 sub-low : tie.Need-sub-low
-sub-low c = let h = c .before .before .pre in le-trans (lit≤ tt) (many-digits (omega arith) (omega arith))
+sub-low c = let h = c .before .before .pre in le-trans (lit≤ tt) (long (omega arith) (omega arith))
 
 shr-result : tie.Need-shr-result
 shr-result c = search needs
 
 sub-result : tie.Need-sub-result
-sub-result c = let h = c .before .before .pre in digits-left (omega arith) (omega arith) _ _ (lit≤ tt)
+sub-result c = let h = c .before .before .pre in length-left (omega arith) (omega arith) _ _ (lit≤ tt)
 
 mul-result : tie.Need-mul-result
 mul-result c = search needs
@@ -47,4 +47,4 @@ returns-3 c = above-64 (c .before .before .pre) (c .if2 .left) _ refl
 pub class-of-spec : {M : Type 1} → statement M
 class-of-spec =
     tie.close
-    (tie.spec returns sub-last returns-2 cast-digits sub-digits sub-low shr-result sub-result mul-result add-result returns-3)
+    (tie.spec returns sub-last returns-2 cast-length sub-length sub-low shr-result sub-result mul-result add-result returns-3)

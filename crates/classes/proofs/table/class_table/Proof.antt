@@ -1,5 +1,5 @@
 -- `classes::table::class_table` meets its contract. The table's rule is one computed test: the array is the list of the smallest
--- classes that hold 0, 1, .. 3,072 bytes.
+-- classes that hold 0, 1, .. 3,072 bytes. Another says the same of what the calculation gives.
 -- Assumes nothing.
 use mathlib.Core.Path.{refl, sym}
 use Rattle.classes.specs.Classes.{rows, firstHolding, classFor}
