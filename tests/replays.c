@@ -188,6 +188,7 @@ static void test_every_small_size(void)
 {
     enum { CHUNKS = 3, MOST_SMALL = 3072 };
     struct stage *stage = stage_new(CHUNKS);
+    struct log_outcome outcome;
 
     group_begin("log", "every-size-to-3073");
     stage_prepare_anyhow(stage);
@@ -196,7 +197,8 @@ static void test_every_small_size(void)
     for (uint64_t size = 0; size <= MOST_SMALL + 1; size++)
         draft_reserve(&draft, size);
     draft_end(&draft);
-    expect(try_draft(stage).refusal == 0, "refused");
+    outcome = try_draft(stage);
+    expect(outcome.refusal == 0 && outcome.reserves[0] == MOST_SMALL + 2, "not all are served");
     group_end();
     stage_free(stage);
 }
