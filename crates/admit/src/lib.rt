@@ -7,7 +7,7 @@ ghost use lib.Dec.{eqb};
 ghost use lib.ListN.{length, getD};
 ghost use Rattle.records.specs.declared.Kind.the-variants.{Class};
 ghost use Rattle.records.specs.Kinds.{slotsOf};
-ghost use Rattle.records.specs.Pool.{pool};
+ghost use Rattle.records.specs.Lent.{before};
 ghost use Rattle.records.specs.Sound.{soundFrom};
 ghost use Rattle.records.specs.Calls.{admitOf};
 ghost use Rattle.admit.specs.Masks.{maskTable};
@@ -200,7 +200,7 @@ fn mixed_block(
     behinds: &[u32; 30],
 ) -> State
     requires { ⌜ (i < 128) × (i < length (now bits)) × (64 * i + 64 ≤ length (now words)) × (512 * i + 512 ≤ length (now slots)) × (now masks ≡ maskTable) × (Behinds (now behinds)) × (Ready left due) ⌝ }
-    ensures { λ r. ⌜ Swept (pool (now (bits .entry)) (now (words .entry)) (now (slots .entry))) i left due (r .ok) (r .left) (r .due) ⌝ }
+    ensures { λ r. ⌜ Swept (before bits words slots) i left due (r .ok) (r .left) (r .due) ⌝ }
 {
     if !edge_ok(i, left, words[64 * i]) {
         return State {
@@ -241,7 +241,7 @@ fn mixed_block(
 // The 64 pages of page-bit word i, between runs, where the word is 0 and no chunk begins: all are free, with no slot bit.
 fn free_block(bits: &[u64], words: &[u32], slots: &[u64], i: usize) -> bool
     requires { ⌜ (i < 128) × (i % 8 ≡ 0 → ⊥) × (getD (now bits) i 0 ≡ 0) × (64 * i + 64 ≤ length (now words)) × (512 * i + 512 ≤ length (now slots)) ⌝ }
-    ensures { λ r. ⌜ Swept (pool (now (bits .entry)) (now (words .entry)) (now (slots .entry))) i 0 0 r 0 0 ⌝ }
+    ensures { λ r. ⌜ Swept (before bits words slots) i 0 0 r 0 0 ⌝ }
 {
     let mut acc: u64 = 0;
     let mut p = 0;
@@ -267,7 +267,7 @@ fn block(
     behinds: &[u32; 30],
 ) -> State
     requires { ⌜ (i < 128) × (i < length (now bits)) × (64 * i + 64 ≤ length (now words)) × (512 * i + 512 ≤ length (now slots)) × (now masks ≡ maskTable) × (Behinds (now behinds)) × (Ready left due) ⌝ }
-    ensures { λ r. ⌜ Swept (pool (now (bits .entry)) (now (words .entry)) (now (slots .entry))) i left due (r .ok) (r .left) (r .due) ⌝ }
+    ensures { λ r. ⌜ Swept (before bits words slots) i left due (r .ok) (r .left) (r .due) ⌝ }
 {
     if left == 0 {
         if i % 8 != 0 {
@@ -287,7 +287,7 @@ fn block(
 // The pages of n page-bit words.
 fn pages_sound(bits: &[u64], words: &[u32], slots: &[u64], n: usize) -> bool
     requires { ⌜ (n ≤ 128) × (n ≤ length (now bits)) × (64 * n ≤ length (now words)) × (512 * n ≤ length (now slots)) ⌝ }
-    ensures { λ r. ⌜ r ≡ soundFrom (pool (now (bits .entry)) (now (words .entry)) (now (slots .entry))) [] 0 (64 * n) ⌝ }
+    ensures { λ r. ⌜ r ≡ soundFrom (before bits words slots) [] 0 (64 * n) ⌝ }
 {
     let masks = masks::mask_table();
     let behinds = behind_table();
@@ -308,7 +308,7 @@ fn pages_sound(bits: &[u64], words: &[u32], slots: &[u64], n: usize) -> bool
 
 // Document 01's check of lent records: 1 no such pool, 2 damaged, 0 sound.
 pub fn admit(c: u64, bits: &[u64], words: &[u32], slots: &[u64]) -> u64
-    ensures { λ r. ⌜ r ≡ admitOf c (pool (now (bits .entry)) (now (words .entry)) (now (slots .entry))) ⌝ }
+    ensures { λ r. ⌜ r ≡ admitOf c (before bits words slots) ⌝ }
 {
     if !records::is_shaped(c, bits.len(), words.len(), slots.len()) {
         return 1;

@@ -2,7 +2,7 @@
 ghost use mathlib.Core.Path.{_≡_};
 ghost use Prim.Native.Nat.{_*_};
 ghost use lib.Dec.{eqb};
-ghost use Rattle.records.specs.Pool.{pool};
+ghost use Rattle.records.specs.Lent.{before};
 ghost use Rattle.bytes.specs.Bytes.{chosen, earFits, partOf, bytesOf, bytesRefusalOf};
 ghost use Rattle.bytes.specs.Means.{BytesMean};
 
@@ -48,7 +48,7 @@ pub fn part_of(
     nleft: usize,
     nright: usize,
 ) -> Part
-    ensures { λ r. ⌜ r ≡ partOf ear c (pool (now (bits .entry)) (now (words .entry)) (now (slots .entry))) q nleft nright ⌝ }
+    ensures { λ r. ⌜ r ≡ partOf ear c (before bits words slots) q nleft nright ⌝ }
 {
     if !ear_fits(ear, c, nleft, nright) {
         return Part {
@@ -83,7 +83,7 @@ pub fn bytes<'a>(
     left: &'a [u8],
     right: &'a [u8],
 ) -> &'a [u8]
-    ensures { λ r. ⌜ now r ≡ bytesOf ear c (pool (now (bits .entry)) (now (words .entry)) (now (slots .entry))) q (now (left .entry)) (now (right .entry)) ⌝ }
+    ensures { λ r. ⌜ now r ≡ bytesOf ear c (before bits words slots) q (now (left .entry)) (now (right .entry)) ⌝ }
 {
     let x = part_of(ear, c, bits, words, slots, q, left.len(), right.len());
     let a = x.start as usize;
@@ -105,7 +105,7 @@ pub fn bytes_refusal(
     left: &[u8],
     right: &[u8],
 ) -> u64
-    ensures { λ r. ⌜ r ≡ bytesRefusalOf ear c (pool (now (bits .entry)) (now (words .entry)) (now (slots .entry))) q (now (left .entry)) (now (right .entry)) ⌝ }
+    ensures { λ r. ⌜ r ≡ bytesRefusalOf ear c (before bits words slots) q (now (left .entry)) (now (right .entry)) ⌝ }
 {
     let x = part_of(ear, c, bits, words, slots, q, left.len(), right.len());
     x.refusal

@@ -4,7 +4,7 @@ ghost use Prim.Native.Nat.{_+_, _*_, _≤_, _<_};
 ghost use lib.ListN.{length};
 ghost use Rattle.bitrow.specs.Row.{countBits};
 ghost use Rattle.classes.specs.Classes.{slots};
-ghost use Rattle.records.specs.Pool.{pool};
+ghost use Rattle.records.specs.Lent.{lent, before};
 ghost use Rattle.records.specs.Calls.{admitOf};
 ghost use Rattle.cells.specs.Cells.{cell, tenths, markOf, runCell, goesOn, cellAt};
 ghost use Rattle.cells.specs.Means.{CellsMean};
@@ -84,8 +84,8 @@ fn goes_on(last: Cell) -> Cell
 
 // What page g shows, behind the cell `last`, on records that are sound.
 pub fn page_cell(c: u64, bits: &[u64], words: &[u32], slots: &[u64], g: usize, last: Cell) -> Cell
-    requires { ⌜ (admitOf c (pool (now bits) (now words) (now slots)) ≡ 0) × (g < 512 * c) × (last .level ≤ 10) ⌝ }
-    ensures { λ r. ⌜ (r ≡ cellAt (pool (now (bits .entry)) (now (words .entry)) (now (slots .entry))) last g)
+    requires { ⌜ (admitOf c (lent bits words slots) ≡ 0) × (g < 512 * c) × (last .level ≤ 10) ⌝ }
+    ensures { λ r. ⌜ (r ≡ cellAt (before bits words slots) last g)
         × (r .joined ≤ 1) × (r .level ≤ 10) ⌝ }
 {
     let k = records::kind_at(c, bits, words, slots, g);

@@ -6,7 +6,7 @@ ghost use lib.ListN.{length};
 ghost use lib.Seq.{sets};
 ghost use Rattle.records.specs.declared.Kind.the-variants.{Class};
 ghost use Rattle.records.specs.Kinds.{slotsOf};
-ghost use Rattle.records.specs.Pool.{pool};
+ghost use Rattle.records.specs.Lent.{lent, before};
 ghost use Rattle.records.specs.Calls.{admitOf};
 ghost use Rattle.blocks.specs.Blocks.{block, pageBlocks, live};
 ghost use Rattle.census.specs.Census.{wordsFor, listed, list, censusOf};
@@ -65,8 +65,8 @@ fn write_page(
     room: &mut [u64],
     i: usize,
 ) -> usize
-    requires { ⌜ (admitOf c (pool (now bits) (now words) (now slots)) ≡ 0) × (g < 512 * c) × (i + 2 * length (pageBlocks (pool (now bits) (now words) (now slots)) g) ≤ length (now room)) ⌝ }
-    ensures { λ r. ⌜ Wrote (now (room .exit)) (now (room .entry)) r i (pageBlocks (pool (now (bits .entry)) (now (words .entry)) (now (slots .entry))) g) ⌝ }
+    requires { ⌜ (admitOf c (lent bits words slots) ≡ 0) × (g < 512 * c) × (i + 2 * length (pageBlocks (lent bits words slots) g) ≤ length (now room)) ⌝ }
+    ensures { λ r. ⌜ Wrote (now (room .exit)) (now (room .entry)) r i (pageBlocks (before bits words slots) g) ⌝ }
 {
     let k = records::kind_at(c, bits, words, slots, g);
     match k {
@@ -84,8 +84,8 @@ fn write_page(
 
 // Writes all live blocks, page by page.
 fn write_pages(c: u64, bits: &[u64], words: &[u32], slots: &[u64], room: &mut [u64])
-    requires { ⌜ (admitOf c (pool (now bits) (now words) (now slots)) ≡ 0) × (2 * length (live c (pool (now bits) (now words) (now slots))) ≤ length (now room)) ⌝ }
-    ensures { λ _. ⌜ now (room .exit) ≡ sets (now (room .entry)) 0 (wordsFor (live c (pool (now (bits .entry)) (now (words .entry)) (now (slots .entry))))) ⌝ }
+    requires { ⌜ (admitOf c (lent bits words slots) ≡ 0) × (2 * length (live c (lent bits words slots)) ≤ length (now room)) ⌝ }
+    ensures { λ _. ⌜ now (room .exit) ≡ sets (now (room .entry)) 0 (wordsFor (live c (before bits words slots))) ⌝ }
 {
     let end = 512 * (c as usize);
     let mut i = 0;
@@ -98,8 +98,8 @@ fn write_pages(c: u64, bits: &[u64], words: &[u32], slots: &[u64], room: &mut [u
 
 // The work of a census, on records that are sound. Half of the room is compared: twice the count might not fit a number.
 pub fn census_sound(c: u64, bits: &[u64], words: &[u32], slots: &[u64], room: &mut [u64]) -> Counted
-    requires { ⌜ admitOf c (pool (now bits) (now words) (now slots)) ≡ 0 ⌝ }
-    ensures { λ r. ⌜ listed r (now (room .exit)) ≡ list c (pool (now (bits .entry)) (now (words .entry)) (now (slots .entry))) (now (room .entry)) ⌝ }
+    requires { ⌜ admitOf c (lent bits words slots) ≡ 0 ⌝ }
+    ensures { λ r. ⌜ listed r (now (room .exit)) ≡ list c (before bits words slots) (now (room .entry)) ⌝ }
 {
     let n = totals::live_count(c, bits, words, slots);
     if room.len() / 2 < n {
@@ -117,7 +117,7 @@ pub fn census_sound(c: u64, bits: &[u64], words: &[u32], slots: &[u64], room: &m
 
 // Document 01's census: the count of the live blocks, or refusal 1, 2 or 7 and nothing is written.
 pub fn census(c: u64, bits: &[u64], words: &[u32], slots: &[u64], room: &mut [u64]) -> Counted
-    ensures { λ r. ⌜ listed r (now (room .exit)) ≡ censusOf c (pool (now (bits .entry)) (now (words .entry)) (now (slots .entry))) (now (room .entry)) ⌝ }
+    ensures { λ r. ⌜ listed r (now (room .exit)) ≡ censusOf c (before bits words slots) (now (room .entry)) ⌝ }
 {
     let a = admit::admit(c, bits, words, slots);
     if a != 0 {

@@ -2,7 +2,7 @@
 ghost use mathlib.Core.Path.{_≡_};
 ghost use Prim.Native.Nat.{_<_};
 ghost use lib.ListN.{length};
-ghost use Rattle.records.specs.Pool.{pool};
+ghost use Rattle.records.specs.Lent.{before, after};
 ghost use Rattle.records.specs.Calls.{leaves, freshOf};
 ghost use Rattle.fresh.specs.Fill.{each, Filled};
 
@@ -43,7 +43,7 @@ fn fill32(words: &mut [u32], m: usize, v: u32)
 
 // Document 01's fresh call: 0, and the records of a pool of c chunks in which only each chunk's page 0 is taken; or 1, and nothing is changed.
 pub fn fresh(c: u64, bits: &mut [u64], words: &mut [u32], slots: &mut [u64]) -> u64
-    ensures { λ r. ⌜ leaves r (pool (now (bits .exit)) (now (words .exit)) (now (slots .exit))) ≡ freshOf c (pool (now (bits .entry)) (now (words .entry)) (now (slots .entry))) ⌝ }
+    ensures { λ r. ⌜ leaves r (after bits words slots) ≡ freshOf c (before bits words slots) ⌝ }
 {
     if !records::is_shaped(c, bits.len(), words.len(), slots.len()) {
         return 1;

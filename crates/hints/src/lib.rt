@@ -6,7 +6,7 @@ ghost use lib.ListN.{length};
 ghost use Rattle.classes.specs.Classes.{size};
 ghost use Rattle.records.specs.declared.Kind.the-variants.{Class};
 ghost use Rattle.records.specs.Kinds.{slotsOf};
-ghost use Rattle.records.specs.Pool.{pool};
+ghost use Rattle.records.specs.Lent.{lent, before, after};
 ghost use Rattle.records.specs.Calls.{admitOf, leaves};
 ghost use Rattle.reserve.specs.Reserve.{slotPage, planSlot, attempt};
 ghost use Rattle.reserve.specs.Plans.{PlanSize};
@@ -43,8 +43,8 @@ pub fn fresh_hints(hints: &mut [u64])
 
 // The first page at which a run of class b with a free slot starts; behind the last page where there is none.
 fn marked_page(c: u64, bits: &[u64], words: &[u32], slots: &[u64], hints: &[u64], b: usize) -> usize
-    requires { ⌜ (Hints c (pool (now bits) (now words) (now slots)) (now hints)) × (c ≤ 16) × (b < 30) ⌝ }
-    ensures { λ r. ⌜ r ≡ slotPage (pool (now (bits .entry)) (now (words .entry)) (now (slots .entry))) b 0 (512 * c) ⌝ }
+    requires { ⌜ (Hints c (lent bits words slots) (now hints)) × (c ≤ 16) × (b < 30) ⌝ }
+    ensures { λ r. ⌜ r ≡ slotPage (before bits words slots) b 0 (512 * c) ⌝ }
 {
     let row = 8192 * b;
     let low = hints[3840 + b] as usize;
@@ -104,8 +104,8 @@ fn take_slot(
     b: usize,
     n: usize,
 ) -> reserve::Reserved
-    requires { ⌜ (admitOf c (pool (now bits) (now words) (now slots)) ≡ 0) × (Hints c (pool (now bits) (now words) (now slots)) (now hints)) × (b < 30) × (n ≡ slotsOf (Class b)) × (g ≡ slotPage (pool (now bits) (now words) (now slots)) b 0 (512 * c)) × (g < 512 * c) ⌝ }
-    ensures { λ r. ⌜ (leaves r (pool (now (bits .entry)) (now (words .entry)) (now (slots .exit))) ≡ carried (pool (now (bits .entry)) (now (words .entry)) (now (slots .entry))) (planSlot c (pool (now (bits .entry)) (now (words .entry)) (now (slots .entry))) b)) × (Hints c (pool (now (bits .entry)) (now (words .entry)) (now (slots .exit))) (now (hints .exit))) ⌝ }
+    requires { ⌜ (admitOf c (lent bits words slots) ≡ 0) × (Hints c (lent bits words slots) (now hints)) × (b < 30) × (n ≡ slotsOf (Class b)) × (g ≡ slotPage (lent bits words slots) b 0 (512 * c)) × (g < 512 * c) ⌝ }
+    ensures { λ r. ⌜ (leaves r (after bits words slots) ≡ carried (before bits words slots) (planSlot c (before bits words slots) b)) × (Hints c (after bits words slots) (now (hints .exit))) ⌝ }
 {
     let s = reserve::free_slot(slots, g, b, n);
     let i = 512 * g + s;
@@ -126,8 +126,8 @@ fn carry_out(
     hints: &mut [u64],
     x: reserve::Plan,
 ) -> reserve::Reserved
-    requires { ⌜ (admitOf c (pool (now bits) (now words) (now slots)) ≡ 0) × (Hints c (pool (now bits) (now words) (now slots)) (now hints)) × (IsPlan c (pool (now bits) (now words) (now slots)) x) ⌝ }
-    ensures { λ r. ⌜ (leaves r (pool (now (bits .exit)) (now (words .exit)) (now (slots .exit))) ≡ carried (pool (now (bits .entry)) (now (words .entry)) (now (slots .entry))) x) × (Hints c (pool (now (bits .exit)) (now (words .exit)) (now (slots .exit))) (now (hints .exit))) ⌝ }
+    requires { ⌜ (admitOf c (lent bits words slots) ≡ 0) × (Hints c (lent bits words slots) (now hints)) × (IsPlan c (lent bits words slots) x) ⌝ }
+    ensures { λ r. ⌜ (leaves r (after bits words slots) ≡ carried (before bits words slots) x) × (Hints c (after bits words slots) (now (hints .exit))) ⌝ }
 {
     reserve::perform_plan(c, bits, words, slots, x);
     let bytes = note_plan(slots, hints, x);
@@ -143,8 +143,8 @@ pub fn reserve_hinted(
     n: u64,
     hints: &mut [u64],
 ) -> reserve::Reserved
-    requires { ⌜ (admitOf c (pool (now bits) (now words) (now slots)) ≡ 0) × (Hints c (pool (now bits) (now words) (now slots)) (now hints)) ⌝ }
-    ensures { λ r. ⌜ (leaves r (pool (now (bits .exit)) (now (words .exit)) (now (slots .exit))) ≡ attempt c (pool (now (bits .entry)) (now (words .entry)) (now (slots .entry))) n) × (Hints c (pool (now (bits .exit)) (now (words .exit)) (now (slots .exit))) (now (hints .exit))) ⌝ }
+    requires { ⌜ (admitOf c (lent bits words slots) ≡ 0) × (Hints c (lent bits words slots) (now hints)) ⌝ }
+    ensures { λ r. ⌜ (leaves r (after bits words slots) ≡ attempt c (before bits words slots) n) × (Hints c (after bits words slots) (now (hints .exit))) ⌝ }
 {
     if n <= 3072 {
         let b = classes::class_of(n as usize);
@@ -169,8 +169,8 @@ fn spot_hinted(
     q: u64,
     hints: &[u64],
 ) -> release::Spot
-    requires { ⌜ (admitOf c (pool (now bits) (now words) (now slots)) ≡ 0) × (Cuts (now hints)) ⌝ }
-    ensures { λ r. ⌜ r ≡ spot c (pool (now (bits .entry)) (now (words .entry)) (now (slots .entry))) q ⌝ }
+    requires { ⌜ (admitOf c (lent bits words slots) ≡ 0) × (Cuts (now hints)) ⌝ }
+    ensures { λ r. ⌜ r ≡ spot c (before bits words slots) q ⌝ }
 {
     match release::area_at(c, bits, words, slots, q) {
         release::Area::Bare => {
@@ -216,8 +216,8 @@ pub fn release_hinted(
     q: u64,
     hints: &mut [u64],
 ) -> u64
-    requires { ⌜ (admitOf c (pool (now bits) (now words) (now slots)) ≡ 0) × (Hints c (pool (now bits) (now words) (now slots)) (now hints)) ⌝ }
-    ensures { λ r. ⌜ (leaves r (pool (now (bits .exit)) (now (words .exit)) (now (slots .exit))) ≡ give c (pool (now (bits .entry)) (now (words .entry)) (now (slots .entry))) q) × (Hints c (pool (now (bits .exit)) (now (words .exit)) (now (slots .exit))) (now (hints .exit))) ⌝ }
+    requires { ⌜ (admitOf c (lent bits words slots) ≡ 0) × (Hints c (lent bits words slots) (now hints)) ⌝ }
+    ensures { λ r. ⌜ (leaves r (after bits words slots) ≡ give c (before bits words slots) q) × (Hints c (after bits words slots) (now (hints .exit))) ⌝ }
 {
     let x = spot_hinted(c, bits, words, slots, q, hints);
     note_spot(hints, x);

@@ -1,6 +1,6 @@
 // The calls as C sees them (include/lensember.h): a slice crosses as a pointer and its number of elements, an answer as a plain struct.
 ghost use mathlib.Core.Path.{_≡_};
-ghost use Rattle.records.specs.Pool.{pool};
+ghost use Rattle.records.specs.Lent.{before, after};
 ghost use Rattle.records.specs.Calls.{admitOf, leaves, freshOf};
 ghost use Rattle.reserve.specs.Reserve.{reserveOf};
 ghost use Rattle.release.specs.Release.{releaseOf, sizeOf};
@@ -73,7 +73,7 @@ fn flat_reserved(r: reserve::Reserved) -> FlatReserved
 // Whether lent records are sound: refusal 1 or 2, or 0.
 #[no_mangle]
 pub extern "C" fn lensember_check(c: u64, bits: &[u64], words: &[u32], slots: &[u64]) -> u64
-    ensures { λ r. ⌜ r ≡ admitOf c (pool (now (bits .entry)) (now (words .entry)) (now (slots .entry))) ⌝ }
+    ensures { λ r. ⌜ r ≡ admitOf c (before bits words slots) ⌝ }
 {
     admit::admit(c, bits, words, slots)
 }
@@ -86,7 +86,7 @@ pub extern "C" fn lensember_fresh(
     words: &mut [u32],
     slots: &mut [u64],
 ) -> u64
-    ensures { λ r. ⌜ leaves r (pool (now (bits .exit)) (now (words .exit)) (now (slots .exit))) ≡ freshOf c (pool (now (bits .entry)) (now (words .entry)) (now (slots .entry))) ⌝ }
+    ensures { λ r. ⌜ leaves r (after bits words slots) ≡ freshOf c (before bits words slots) ⌝ }
 {
     fresh::fresh(c, bits, words, slots)
 }
@@ -100,7 +100,7 @@ pub extern "C" fn lensember_reserve(
     slots: &mut [u64],
     size: u64,
 ) -> FlatReserved
-    ensures { λ r. ⌜ leaves r (pool (now (bits .exit)) (now (words .exit)) (now (slots .exit))) ≡ reservedOf (reserveOf c (pool (now (bits .entry)) (now (words .entry)) (now (slots .entry))) size) ⌝ }
+    ensures { λ r. ⌜ leaves r (after bits words slots) ≡ reservedOf (reserveOf c (before bits words slots) size) ⌝ }
 {
     flat_reserved(reserve::reserve(c, bits, words, slots, size))
 }
@@ -114,7 +114,7 @@ pub extern "C" fn lensember_release(
     slots: &mut [u64],
     place: u64,
 ) -> u64
-    ensures { λ r. ⌜ leaves r (pool (now (bits .exit)) (now (words .exit)) (now (slots .exit))) ≡ releaseOf c (pool (now (bits .entry)) (now (words .entry)) (now (slots .entry))) place ⌝ }
+    ensures { λ r. ⌜ leaves r (after bits words slots) ≡ releaseOf c (before bits words slots) place ⌝ }
 {
     release::release(c, bits, words, slots, place)
 }
@@ -128,7 +128,7 @@ pub extern "C" fn lensember_block_size(
     slots: &[u64],
     place: u64,
 ) -> release::Sized
-    ensures { λ r. ⌜ r ≡ sizeOf c (pool (now (bits .entry)) (now (words .entry)) (now (slots .entry))) place ⌝ }
+    ensures { λ r. ⌜ r ≡ sizeOf c (before bits words slots) place ⌝ }
 {
     release::block_size(c, bits, words, slots, place)
 }
@@ -142,7 +142,7 @@ pub extern "C" fn lensember_next(
     slots: &[u64],
     place: u64,
 ) -> next::Next
-    ensures { λ r. ⌜ r ≡ nextOf c (pool (now (bits .entry)) (now (words .entry)) (now (slots .entry))) place ⌝ }
+    ensures { λ r. ⌜ r ≡ nextOf c (before bits words slots) place ⌝ }
 {
     next::next_live(c, bits, words, slots, place)
 }
@@ -156,7 +156,7 @@ pub extern "C" fn lensember_census(
     slots: &[u64],
     room: &mut [u64],
 ) -> census::Counted
-    ensures { λ r. ⌜ listed r (now (room .exit)) ≡ censusOf c (pool (now (bits .entry)) (now (words .entry)) (now (slots .entry))) (now (room .entry)) ⌝ }
+    ensures { λ r. ⌜ listed r (now (room .exit)) ≡ censusOf c (before bits words slots) (now (room .entry)) ⌝ }
 {
     census::census(c, bits, words, slots, room)
 }
@@ -169,7 +169,7 @@ pub extern "C" fn lensember_totals(
     words: &[u32],
     slots: &[u64],
 ) -> totals::Sums
-    ensures { λ r. ⌜ r ≡ totalsOf c (pool (now (bits .entry)) (now (words .entry)) (now (slots .entry))) ⌝ }
+    ensures { λ r. ⌜ r ≡ totalsOf c (before bits words slots) ⌝ }
 {
     totals::totals(c, bits, words, slots)
 }
@@ -186,7 +186,7 @@ pub extern "C" fn lensember_bytes(
     nleft: usize,
     nright: usize,
 ) -> bytes::Part
-    ensures { λ r. ⌜ r ≡ partOf ear c (pool (now (bits .entry)) (now (words .entry)) (now (slots .entry))) place nleft nright ⌝ }
+    ensures { λ r. ⌜ r ≡ partOf ear c (before bits words slots) place nleft nright ⌝ }
 {
     bytes::part_of(ear, c, bits, words, slots, place, nleft, nright)
 }
@@ -200,7 +200,7 @@ pub extern "C" fn lensember_replay(
     slots: &mut [u64],
     log: &[u8],
 ) -> replay::Replayed
-    ensures { λ r. ⌜ leaves r (pool (now (bits .exit)) (now (words .exit)) (now (slots .exit))) ≡ replayOf c (pool (now (bits .entry)) (now (words .entry)) (now (slots .entry))) (now (log .entry)) ⌝ }
+    ensures { λ r. ⌜ leaves r (after bits words slots) ≡ replayOf c (before bits words slots) (now (log .entry)) ⌝ }
 {
     replay::replay(c, bits, words, slots, log)
 }
@@ -215,7 +215,7 @@ pub extern "C" fn lensember_lines(
     log: &[u8],
     out: &mut [u8],
 ) -> lines::Printed
-    ensures { λ r. ⌜ told r (pool (now (bits .exit)) (now (words .exit)) (now (slots .exit))) (now (out .exit)) ≡ printedOf c (pool (now (bits .entry)) (now (words .entry)) (now (slots .entry))) (now (log .entry)) (now (out .entry)) ⌝ }
+    ensures { λ r. ⌜ told r (after bits words slots) (now (out .exit)) ≡ printedOf c (before bits words slots) (now (log .entry)) (now (out .entry)) ⌝ }
 {
     lines::lines(c, bits, words, slots, log, out)
 }

@@ -2,7 +2,8 @@
 ghost use mathlib.Core.Path.{_≡_};
 ghost use Prim.Native.Nat.{_*_, _/_, _<_};
 ghost use Rattle.classes.specs.Classes.{size};
-ghost use Rattle.records.specs.Pool.{pool, kindAt};
+ghost use Rattle.records.specs.Pool.{kindAt};
+ghost use Rattle.records.specs.Lent.{lent, before};
 ghost use Rattle.records.specs.Calls.{admitOf};
 ghost use Rattle.blocks.specs.Blocks.{live};
 ghost use Rattle.next.specs.Next.{firstFrom, nextOf};
@@ -48,8 +49,8 @@ fn slot_from(b: usize, off: usize) -> usize
 
 // The page and slot at which the search for the place q starts. Any page but those of class runs begins at most one block, at its first byte.
 fn start_of(c: u64, bits: &[u64], words: &[u32], slots: &[u64], q: usize) -> Start
-    requires { ⌜ (admitOf c (pool (now bits) (now words) (now slots)) ≡ 0) × (q / 4096 < 512 * c) ⌝ }
-    ensures { λ r. ⌜ Started c (pool (now (bits .entry)) (now (words .entry)) (now (slots .entry))) q (r .page) (r .slot) ⌝ }
+    requires { ⌜ (admitOf c (lent bits words slots) ≡ 0) × (q / 4096 < 512 * c) ⌝ }
+    ensures { λ r. ⌜ Started c (before bits words slots) q (r .page) (r .slot) ⌝ }
 {
     let g = q / 4096;
     let home = records::home_at(c, bits, words, slots, g);
@@ -80,8 +81,8 @@ fn start_of(c: u64, bits: &[u64], words: &[u32], slots: &[u64], q: usize) -> Sta
 
 // What starts at page g.
 fn begun_at(c: u64, bits: &[u64], words: &[u32], slots: &[u64], g: usize) -> Begun
-    requires { ⌜ (admitOf c (pool (now bits) (now words) (now slots)) ≡ 0) × (g < 512 * c) ⌝ }
-    ensures { λ r. ⌜ r ≡ begunAt (kindAt (pool (now (bits .entry)) (now (words .entry)) (now (slots .entry))) g) ⌝ }
+    requires { ⌜ (admitOf c (lent bits words slots) ≡ 0) × (g < 512 * c) ⌝ }
+    ensures { λ r. ⌜ r ≡ begunAt (kindAt (before bits words slots) g) ⌝ }
 {
     match records::kind_at(c, bits, words, slots, g) {
         records::Kind::Large(k) => {
@@ -114,8 +115,8 @@ fn begun_at(c: u64, bits: &[u64], words: &[u32], slots: &[u64], g: usize) -> Beg
 // The search, on records that are sound: chunks, pages and slots from the place on, left at the first live block. Free pages and free
 // slots are passed a word at a time.
 pub fn next_sound(c: u64, bits: &[u64], words: &[u32], slots: &[u64], q: u64) -> Found
-    requires { ⌜ admitOf c (pool (now bits) (now words) (now slots)) ≡ 0 ⌝ }
-    ensures { λ r. ⌜ r ≡ firstFrom q (live c (pool (now (bits .entry)) (now (words .entry)) (now (slots .entry)))) ⌝ }
+    requires { ⌜ admitOf c (lent bits words slots) ≡ 0 ⌝ }
+    ensures { λ r. ⌜ r ≡ firstFrom q (live c (before bits words slots)) ⌝ }
 {
     if 512 * c <= q / 4096 {
         return Found::Nothing;
@@ -155,7 +156,7 @@ pub fn next_sound(c: u64, bits: &[u64], words: &[u32], slots: &[u64], q: u64) ->
 
 // Document 01's next: the place and size of the live block with the lowest place at or above q, or none with place 0 and size 0.
 pub fn next_live(c: u64, bits: &[u64], words: &[u32], slots: &[u64], q: u64) -> Next
-    ensures { λ r. ⌜ r ≡ nextOf c (pool (now (bits .entry)) (now (words .entry)) (now (slots .entry))) q ⌝ }
+    ensures { λ r. ⌜ r ≡ nextOf c (before bits words slots) q ⌝ }
 {
     let a = admit::admit(c, bits, words, slots);
     if a != 0 {

@@ -4,7 +4,7 @@ ghost use mathlib.Core.Path.{_≡_};
 ghost use mathlib.Core.Bool.{true, false};
 ghost use Prim.Native.Nat.{_+_, _*_, _≤_, _<_};
 ghost use lib.ListN.{length, take};
-ghost use Rattle.records.specs.Pool.{pool};
+ghost use Rattle.records.specs.Lent.{lent, before};
 ghost use Rattle.records.specs.Calls.{admitOf};
 ghost use Rattle.text.specs.Text.{Appends};
 ghost use Rattle.cells.specs.Cells.{noCell};
@@ -143,9 +143,9 @@ fn put_pages(
     out: &mut [u8],
     at: usize,
 ) -> usize
-    requires { ⌜ (admitOf c (pool (now bits) (now words) (now slots)) ≡ 0) × (at + pageRoom svg * (512 * c) ≤ length (now out)) ⌝ }
+    requires { ⌜ (admitOf c (lent bits words slots) ≡ 0) × (at + pageRoom svg * (512 * c) ≤ length (now out)) ⌝ }
     ensures { λ r. ⌜ Appends (now (out .entry)) (now (out .exit)) at r
-        (pagesFrom svg (pool (now (bits .entry)) (now (words .entry)) (now (slots .entry))) noCell 0 (512 * c)) ⌝ }
+        (pagesFrom svg (before bits words slots) noCell 0 (512 * c)) ⌝ }
     ensures { λ r. ⌜ r ≤ at + pageRoom svg * (512 * c) ⌝ }
 {
     let n = 512 * (c as usize);
@@ -175,9 +175,9 @@ fn draw_sound(
     slots: &[u64],
     out: &mut [u8],
 ) -> Drawn
-    requires { ⌜ (admitOf c (pool (now bits) (now words) (now slots)) ≡ 0) × (roomFor svg c ≤ length (now out)) ⌝ }
+    requires { ⌜ (admitOf c (lent bits words slots) ≡ 0) × (roomFor svg c ≤ length (now out)) ⌝ }
     ensures { λ r. ⌜ shown r (now (out .exit))
-        ≡ showing svg c (pool (now (bits .entry)) (now (words .entry)) (now (slots .entry))) (now (out .entry)) ⌝ }
+        ≡ showing svg c (before bits words slots) (now (out .entry)) ⌝ }
     ensures { λ r. ⌜ r .length ≤ length (now (out .exit)) ⌝ }
 {
     let i = put_head(svg, out, c);
@@ -205,7 +205,7 @@ fn room_for(svg: bool, c: u64) -> usize
 // The drawing, behind the check of the records.
 fn draw(svg: bool, c: u64, bits: &[u64], words: &[u32], slots: &[u64], out: &mut [u8]) -> Drawn
     ensures { λ r. ⌜ shown r (now (out .exit))
-        ≡ drawnOf svg c (pool (now (bits .entry)) (now (words .entry)) (now (slots .entry))) (now (out .entry)) ⌝ }
+        ≡ drawnOf svg c (before bits words slots) (now (out .entry)) ⌝ }
     ensures { λ r. ⌜ r .length ≤ length (now (out .exit)) ⌝ }
 {
     let a = admit::admit(c, bits, words, slots);
@@ -228,7 +228,7 @@ fn draw(svg: bool, c: u64, bits: &[u64], words: &[u32], slots: &[u64], out: &mut
 // chunks: 14,848 bytes for each chunk, and 256.
 pub fn draw_text(c: u64, bits: &[u64], words: &[u32], slots: &[u64], out: &mut [u8]) -> Drawn
     ensures { λ r. ⌜ shown r (now (out .exit))
-        ≡ drawnOf false c (pool (now (bits .entry)) (now (words .entry)) (now (slots .entry))) (now (out .entry)) ⌝ }
+        ≡ drawnOf false c (before bits words slots) (now (out .entry)) ⌝ }
     ensures { λ r. ⌜ (r .length ≤ length (now (out .exit))) × (r .length ≡ length (take (r .length) (now (out .exit)))) ⌝ }
 {
     draw(false, c, bits, words, slots, out)
@@ -237,7 +237,7 @@ pub fn draw_text(c: u64, bits: &[u64], words: &[u32], slots: &[u64], out: &mut [
 // The same as an SVG picture; the room is 215,040 bytes for each chunk, and 2,048.
 pub fn draw_svg(c: u64, bits: &[u64], words: &[u32], slots: &[u64], out: &mut [u8]) -> Drawn
     ensures { λ r. ⌜ shown r (now (out .exit))
-        ≡ drawnOf true c (pool (now (bits .entry)) (now (words .entry)) (now (slots .entry))) (now (out .entry)) ⌝ }
+        ≡ drawnOf true c (before bits words slots) (now (out .entry)) ⌝ }
     ensures { λ r. ⌜ (r .length ≤ length (now (out .exit))) × (r .length ≡ length (take (r .length) (now (out .exit)))) ⌝ }
 {
     draw(true, c, bits, words, slots, out)

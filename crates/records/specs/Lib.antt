@@ -1,5 +1,6 @@
 pub mod Kinds
 pub mod Pool
+pub mod Lent
 pub mod Sound
 pub mod Calls
 pub mod Runs

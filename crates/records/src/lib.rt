@@ -2,7 +2,8 @@
 ghost use mathlib.Core.Path.{_≡_};
 ghost use Prim.Native.Nat.{_*_, _≤_, _<_};
 ghost use Rattle.records.specs.Kinds.{edgeWord, largeWord, classWord, innerWord, isRunOf};
-ghost use Rattle.records.specs.Pool.{pool, kindAt};
+ghost use Rattle.records.specs.Pool.{kindAt};
+ghost use Rattle.records.specs.Lent.{lent, before};
 ghost use Rattle.records.specs.Calls.{shaped, admitOf};
 ghost use Rattle.records.specs.Runs.{Lies, SoundRecords};
 
@@ -61,8 +62,8 @@ pub fn inner_word(b: usize, k: usize) -> u32
 // What page g is, on records that are sound: there a word means one thing only, and the page bit tells a free page from one inside a large
 // run. The words at which nothing begins come first: where a caller takes them alike, that is one comparison.
 pub fn kind_at(c: u64, bits: &[u64], words: &[u32], slots: &[u64], g: usize) -> Kind
-    requires { ⌜ (admitOf c (pool (now bits) (now words) (now slots)) ≡ 0) × (g < 512 * c) ⌝ }
-    ensures { λ r. ⌜ r ≡ kindAt (pool (now (bits .entry)) (now (words .entry)) (now (slots .entry))) g ⌝ }
+    requires { ⌜ (admitOf c (lent bits words slots) ≡ 0) × (g < 512 * c) ⌝ }
+    ensures { λ r. ⌜ r ≡ kindAt (before bits words slots) g ⌝ }
 {
     let w = words[g];
     if 0xC0000000 <= w {
@@ -85,8 +86,8 @@ pub fn kind_at(c: u64, bits: &[u64], words: &[u32], slots: &[u64], g: usize) -> 
 
 // Whether a run of class b starts at page g, on records that are sound: one comparison, for searches that go over all pages.
 pub fn is_run_of(c: u64, bits: &[u64], words: &[u32], slots: &[u64], g: usize, b: usize) -> bool
-    requires { ⌜ (admitOf c (pool (now bits) (now words) (now slots)) ≡ 0) × (g < 512 * c) × (b < 30) ⌝ }
-    ensures { λ r. ⌜ r ≡ isRunOf b (kindAt (pool (now (bits .entry)) (now (words .entry)) (now (slots .entry))) g) ⌝ }
+    requires { ⌜ (admitOf c (lent bits words slots) ≡ 0) × (g < 512 * c) × (b < 30) ⌝ }
+    ensures { λ r. ⌜ r ≡ isRunOf b (kindAt (before bits words slots) g) ⌝ }
 {
     words[g] == class_word(b)
 }
@@ -94,8 +95,8 @@ pub fn is_run_of(c: u64, bits: &[u64], words: &[u32], slots: &[u64], g: usize, b
 // What page g lies in, on records that are sound. A page inside a class run has the way to the run's first page in its word; any other page
 // is told by itself.
 pub fn home_at(c: u64, bits: &[u64], words: &[u32], slots: &[u64], g: usize) -> Home
-    requires { ⌜ (admitOf c (pool (now bits) (now words) (now slots)) ≡ 0) × (g < 512 * c) ⌝ }
-    ensures { λ r. ⌜ Lies (pool (now (bits .entry)) (now (words .entry)) (now (slots .entry))) g (r .first) (r .kind) ⌝ }
+    requires { ⌜ (admitOf c (lent bits words slots) ≡ 0) × (g < 512 * c) ⌝ }
+    ensures { λ r. ⌜ Lies (before bits words slots) g (r .first) (r .kind) ⌝ }
 {
     let w = words[g];
     if 0xC0000000 <= w {

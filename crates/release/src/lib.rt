@@ -7,7 +7,7 @@ ghost use Rattle.bitrow.specs.Row.{putBits};
 ghost use Rattle.classes.specs.Classes.{size};
 ghost use Rattle.records.specs.declared.Kind.the-variants.{Class};
 ghost use Rattle.records.specs.Kinds.{slotsOf, zeros};
-ghost use Rattle.records.specs.Pool.{pool};
+ghost use Rattle.records.specs.Lent.{lent, before, after};
 ghost use Rattle.records.specs.Calls.{admitOf, leaves};
 ghost use Rattle.release.specs.Means.{ReleaseMeans};
 ghost use Rattle.release.specs.Release.{slotSpot, spot, released, giveBack, give, releaseOf, sizeAt, sizeOf};
@@ -55,8 +55,8 @@ pub fn slot_spot(slots: &[u64], g: usize, b: usize, off: usize, bytes: usize, co
 
 // What the place q lies in.
 pub fn area_at(c: u64, bits: &[u64], words: &[u32], slots: &[u64], q: u64) -> Area
-    requires { ⌜ admitOf c (pool (now bits) (now words) (now slots)) ≡ 0 ⌝ }
-    ensures { λ r. ⌜ Leads c (pool (now (bits .entry)) (now (words .entry)) (now (slots .entry))) q r ⌝ }
+    requires { ⌜ admitOf c (lent bits words slots) ≡ 0 ⌝ }
+    ensures { λ r. ⌜ Leads c (before bits words slots) q r ⌝ }
 {
     if 512 * c <= q / 4096 {
         return Area::Bare;
@@ -83,8 +83,8 @@ pub fn area_at(c: u64, bits: &[u64], words: &[u32], slots: &[u64], q: u64) -> Ar
 
 // What starts at the place q.
 pub fn spot_at(c: u64, bits: &[u64], words: &[u32], slots: &[u64], q: u64) -> Spot
-    requires { ⌜ admitOf c (pool (now bits) (now words) (now slots)) ≡ 0 ⌝ }
-    ensures { λ r. ⌜ r ≡ spot c (pool (now (bits .entry)) (now (words .entry)) (now (slots .entry))) q ⌝ }
+    requires { ⌜ admitOf c (lent bits words slots) ≡ 0 ⌝ }
+    ensures { λ r. ⌜ r ≡ spot c (before bits words slots) q ⌝ }
 {
     match area_at(c, bits, words, slots, q) {
         Area::Bare => {
@@ -113,8 +113,8 @@ fn give_run(bits: &mut [u64], words: &mut [u32], g: usize, n: usize)
 
 // Gives back what starts at a place, and answers 0 or the refusal.
 pub fn give_back(c: u64, bits: &mut [u64], words: &mut [u32], slots: &mut [u64], x: Spot) -> u64
-    requires { ⌜ (admitOf c (pool (now bits) (now words) (now slots)) ≡ 0) × (IsSpot c (pool (now bits) (now words) (now slots)) x) ⌝ }
-    ensures { λ r. ⌜ leaves r (pool (now (bits .exit)) (now (words .exit)) (now (slots .exit))) ≡ leaves (released x) (giveBack (pool (now (bits .entry)) (now (words .entry)) (now (slots .entry))) x) ⌝ }
+    requires { ⌜ (admitOf c (lent bits words slots) ≡ 0) × (IsSpot c (lent bits words slots) x) ⌝ }
+    ensures { λ r. ⌜ leaves r (after bits words slots) ≡ leaves (released x) (giveBack (before bits words slots) x) ⌝ }
 {
     match x {
         Spot::Nowhere(r) => {
@@ -133,8 +133,8 @@ pub fn give_back(c: u64, bits: &mut [u64], words: &mut [u32], slots: &mut [u64],
 
 // The work of a release, on records that are sound.
 pub fn release_sound(c: u64, bits: &mut [u64], words: &mut [u32], slots: &mut [u64], q: u64) -> u64
-    requires { ⌜ admitOf c (pool (now bits) (now words) (now slots)) ≡ 0 ⌝ }
-    ensures { λ r. ⌜ leaves r (pool (now (bits .exit)) (now (words .exit)) (now (slots .exit))) ≡ give c (pool (now (bits .entry)) (now (words .entry)) (now (slots .entry))) q ⌝ }
+    requires { ⌜ admitOf c (lent bits words slots) ≡ 0 ⌝ }
+    ensures { λ r. ⌜ leaves r (after bits words slots) ≡ give c (before bits words slots) q ⌝ }
 {
     let x = spot_at(c, bits, words, slots, q);
     give_back(c, bits, words, slots, x)
@@ -142,7 +142,7 @@ pub fn release_sound(c: u64, bits: &mut [u64], words: &mut [u32], slots: &mut [u
 
 // Document 01's release: 0, or refusal 1, 2, 5 or 6 and nothing is changed.
 pub fn release(c: u64, bits: &mut [u64], words: &mut [u32], slots: &mut [u64], q: u64) -> u64
-    ensures { λ r. ⌜ leaves r (pool (now (bits .exit)) (now (words .exit)) (now (slots .exit))) ≡ releaseOf c (pool (now (bits .entry)) (now (words .entry)) (now (slots .entry))) q ⌝ }
+    ensures { λ r. ⌜ leaves r (after bits words slots) ≡ releaseOf c (before bits words slots) q ⌝ }
 {
     let a = admit::admit(c, bits, words, slots);
     if a != 0 {
@@ -153,8 +153,8 @@ pub fn release(c: u64, bits: &mut [u64], words: &mut [u32], slots: &mut [u64], q
 
 // The size that was given to the block at the place q, on records that are sound.
 pub fn size_sound(c: u64, bits: &[u64], words: &[u32], slots: &[u64], q: u64) -> Sized
-    requires { ⌜ admitOf c (pool (now bits) (now words) (now slots)) ≡ 0 ⌝ }
-    ensures { λ r. ⌜ r ≡ sizeAt (spot c (pool (now (bits .entry)) (now (words .entry)) (now (slots .entry))) q) ⌝ }
+    requires { ⌜ admitOf c (lent bits words slots) ≡ 0 ⌝ }
+    ensures { λ r. ⌜ r ≡ sizeAt (spot c (before bits words slots) q) ⌝ }
 {
     match spot_at(c, bits, words, slots, q) {
         Spot::Nowhere(r) => {
@@ -181,7 +181,7 @@ pub fn size_sound(c: u64, bits: &[u64], words: &[u32], slots: &[u64], q: u64) ->
 
 // Document 01's block size: the size given to the live block at the place q, or refusal 1, 2, 5 or 6.
 pub fn block_size(c: u64, bits: &[u64], words: &[u32], slots: &[u64], q: u64) -> Sized
-    ensures { λ r. ⌜ r ≡ sizeOf c (pool (now (bits .entry)) (now (words .entry)) (now (slots .entry))) q ⌝ }
+    ensures { λ r. ⌜ r ≡ sizeOf c (before bits words slots) q ⌝ }
 {
     let a = admit::admit(c, bits, words, slots);
     if a != 0 {

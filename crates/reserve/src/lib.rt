@@ -7,7 +7,7 @@ ghost use Rattle.bitrow.specs.Row.{putBits};
 ghost use Rattle.classes.specs.Classes.{size, pages};
 ghost use Rattle.records.specs.declared.Kind.the-variants.{Large, Class};
 ghost use Rattle.records.specs.Kinds.{slotsOf, wordsOf};
-ghost use Rattle.records.specs.Pool.{pool};
+ghost use Rattle.records.specs.Lent.{lent, before, after};
 ghost use Rattle.records.specs.Calls.{admitOf, leaves};
 ghost use Rattle.reserve.specs.Reserve.{freeSlot, hasSlot, slotPage, planSlot, planRun, planLarge, plan, perform, slotGiven, answer, attempt, reserveOf};
 ghost use Rattle.reserve.specs.Means.{ReserveMeans};
@@ -61,8 +61,8 @@ fn has_slot(
     b: usize,
     n: usize,
 ) -> bool
-    requires { ⌜ (admitOf c (pool (now bits) (now words) (now slots)) ≡ 0) × (g < 512 * c) × (b < 30) × (n ≡ slotsOf (Class b)) ⌝ }
-    ensures { λ r. ⌜ r ≡ hasSlot (pool (now (bits .entry)) (now (words .entry)) (now (slots .entry))) b g ⌝ }
+    requires { ⌜ (admitOf c (lent bits words slots) ≡ 0) × (g < 512 * c) × (b < 30) × (n ≡ slotsOf (Class b)) ⌝ }
+    ensures { λ r. ⌜ r ≡ hasSlot (before bits words slots) b g ⌝ }
 {
     if !records::is_run_of(c, bits, words, slots, g, b) {
         return false;
@@ -72,8 +72,8 @@ fn has_slot(
 
 // The first page at which a run of class b with a free slot starts; behind the last page where there is none.
 fn slot_page(c: u64, bits: &[u64], words: &[u32], slots: &[u64], b: usize, n: usize) -> usize
-    requires { ⌜ (admitOf c (pool (now bits) (now words) (now slots)) ≡ 0) × (b < 30) × (n ≡ slotsOf (Class b)) ⌝ }
-    ensures { λ r. ⌜ r ≡ slotPage (pool (now (bits .entry)) (now (words .entry)) (now (slots .entry))) b 0 (512 * c) ⌝ }
+    requires { ⌜ (admitOf c (lent bits words slots) ≡ 0) × (b < 30) × (n ≡ slotsOf (Class b)) ⌝ }
+    ensures { λ r. ⌜ r ≡ slotPage (before bits words slots) b 0 (512 * c) ⌝ }
 {
     let end = 512 * (c as usize);
     let mut g = 0;
@@ -96,8 +96,8 @@ pub fn plan_slot(
     n: usize,
     g: usize,
 ) -> Plan
-    requires { ⌜ (admitOf c (pool (now bits) (now words) (now slots)) ≡ 0) × (b < 30) × (n ≡ slotsOf (Class b)) × (g ≡ slotPage (pool (now bits) (now words) (now slots)) b 0 (512 * c)) ⌝ }
-    ensures { λ r. ⌜ r ≡ planSlot c (pool (now (bits .entry)) (now (words .entry)) (now (slots .entry))) b ⌝ }
+    requires { ⌜ (admitOf c (lent bits words slots) ≡ 0) × (b < 30) × (n ≡ slotsOf (Class b)) × (g ≡ slotPage (lent bits words slots) b 0 (512 * c)) ⌝ }
+    ensures { λ r. ⌜ r ≡ planSlot c (before bits words slots) b ⌝ }
 {
     if g < 512 * (c as usize) {
         let s = free_slot(slots, g, b, n);
@@ -144,8 +144,8 @@ pub fn plan_large(c: u64, bits: &[u64], n: u64) -> Plan
 
 // What a reserve of n bytes will do, on records that are sound.
 pub fn plan_for(c: u64, bits: &[u64], words: &[u32], slots: &[u64], n: u64) -> Plan
-    requires { ⌜ admitOf c (pool (now bits) (now words) (now slots)) ≡ 0 ⌝ }
-    ensures { λ r. ⌜ r ≡ plan c (pool (now (bits .entry)) (now (words .entry)) (now (slots .entry))) n ⌝ }
+    requires { ⌜ admitOf c (lent bits words slots) ≡ 0 ⌝ }
+    ensures { λ r. ⌜ r ≡ plan c (before bits words slots) n ⌝ }
 {
     if n <= 3072 {
         let b = classes::class_of(n as usize);
@@ -173,7 +173,7 @@ fn class_words(words: &mut [u32], g: usize, b: usize, n: usize)
 // A new run of class b at page g, with its slot 0 taken.
 fn new_run(bits: &mut [u64], words: &mut [u32], slots: &mut [u64], g: usize, b: usize)
     requires { ⌜ (b < 30) × (g + pages b ≤ 8192) × (g + pages b ≤ 64 * length (now bits)) × (g + pages b ≤ length (now words)) × (512 * g < 64 * length (now slots)) ⌝ }
-    ensures { λ _. ⌜ pool (now (bits .exit)) (now (words .exit)) (now (slots .exit)) ≡ perform (pool (now (bits .entry)) (now (words .entry)) (now (slots .entry))) (Plan.NewRun g b) ⌝ }
+    ensures { λ _. ⌜ after bits words slots ≡ perform (before bits words slots) (Plan.NewRun g b) ⌝ }
 {
     let row = classes::class_row(b);
     let n = widths::wide16(row.pages);
@@ -193,8 +193,8 @@ fn new_large(bits: &mut [u64], words: &mut [u32], g: usize, n: usize)
 
 // The stores of a plan.
 pub fn perform_plan(c: u64, bits: &mut [u64], words: &mut [u32], slots: &mut [u64], x: Plan)
-    requires { ⌜ (admitOf c (pool (now bits) (now words) (now slots)) ≡ 0) × (PlanOk c (pool (now bits) (now words) (now slots)) x) ⌝ }
-    ensures { λ _. ⌜ pool (now (bits .exit)) (now (words .exit)) (now (slots .exit)) ≡ perform (pool (now (bits .entry)) (now (words .entry)) (now (slots .entry))) x ⌝ }
+    requires { ⌜ (admitOf c (lent bits words slots) ≡ 0) × (PlanOk c (lent bits words slots) x) ⌝ }
+    ensures { λ _. ⌜ after bits words slots ≡ perform (before bits words slots) x ⌝ }
 {
     match x {
         Plan::Refuse(r) => {
@@ -299,8 +299,8 @@ pub fn reserve_sound(
     slots: &mut [u64],
     n: u64,
 ) -> Reserved
-    requires { ⌜ admitOf c (pool (now bits) (now words) (now slots)) ≡ 0 ⌝ }
-    ensures { λ r. ⌜ leaves r (pool (now (bits .exit)) (now (words .exit)) (now (slots .exit))) ≡ attempt c (pool (now (bits .entry)) (now (words .entry)) (now (slots .entry))) n ⌝ }
+    requires { ⌜ admitOf c (lent bits words slots) ≡ 0 ⌝ }
+    ensures { λ r. ⌜ leaves r (after bits words slots) ≡ attempt c (before bits words slots) n ⌝ }
 {
     let x = plan_for(c, bits, words, slots, n);
     perform_plan(c, bits, words, slots, x);
@@ -310,7 +310,7 @@ pub fn reserve_sound(
 
 // Document 01's reserve of n bytes: what was given, or refusal 1, 2, 3 or 4 and nothing is changed.
 pub fn reserve(c: u64, bits: &mut [u64], words: &mut [u32], slots: &mut [u64], n: u64) -> Reserved
-    ensures { λ r. ⌜ leaves r (pool (now (bits .exit)) (now (words .exit)) (now (slots .exit))) ≡ reserveOf c (pool (now (bits .entry)) (now (words .entry)) (now (slots .entry))) n ⌝ }
+    ensures { λ r. ⌜ leaves r (after bits words slots) ≡ reserveOf c (before bits words slots) n ⌝ }
 {
     let a = admit::admit(c, bits, words, slots);
     if a != 0 {

@@ -4,7 +4,7 @@ ghost use Prim.Native.Nat.{_+_, _*_, _<_, _≤_};
 ghost use lib.ListN.{length};
 ghost use Rattle.bitrow.specs.Row.{isSet};
 ghost use Rattle.classes.specs.Classes.{rowAt};
-ghost use Rattle.records.specs.Pool.{pool};
+ghost use Rattle.records.specs.Lent.{lent, before};
 ghost use Rattle.records.specs.Runs.{spanOf};
 ghost use Rattle.records.specs.Calls.{admitOf};
 ghost use Rattle.blocks.specs.Blocks.{blocksAt, live};
@@ -71,8 +71,8 @@ fn page_tally(slots: &[u64], g: usize, k: records::Kind, row: classes::Row) -> T
 
 // All live blocks. The class rows are copied once: a constant is written out anew at each read by index.
 fn tally_live(c: u64, bits: &[u64], words: &[u32], slots: &[u64]) -> Tally
-    requires { ⌜ admitOf c (pool (now bits) (now words) (now slots)) ≡ 0 ⌝ }
-    ensures { λ r. ⌜ r ≡ tallyOf (live c (pool (now (bits .entry)) (now (words .entry)) (now (slots .entry)))) ⌝ }
+    requires { ⌜ admitOf c (lent bits words slots) ≡ 0 ⌝ }
+    ensures { λ r. ⌜ r ≡ tallyOf (live c (before bits words slots)) ⌝ }
 {
     let table = classes::class_rows();
     let n = 512 * (c as usize);
@@ -95,8 +95,8 @@ fn tally_live(c: u64, bits: &[u64], words: &[u32], slots: &[u64]) -> Tally
 
 // The number of live blocks, on records that are sound.
 pub fn live_count(c: u64, bits: &[u64], words: &[u32], slots: &[u64]) -> usize
-    requires { ⌜ admitOf c (pool (now bits) (now words) (now slots)) ≡ 0 ⌝ }
-    ensures { λ r. ⌜ r ≡ length (live c (pool (now (bits .entry)) (now (words .entry)) (now (slots .entry)))) ⌝ }
+    requires { ⌜ admitOf c (lent bits words slots) ≡ 0 ⌝ }
+    ensures { λ r. ⌜ r ≡ length (live c (before bits words slots)) ⌝ }
 {
     let t = tally_live(c, bits, words, slots);
     t.blocks
@@ -104,8 +104,8 @@ pub fn live_count(c: u64, bits: &[u64], words: &[u32], slots: &[u64]) -> usize
 
 // The totals of records that are sound. There the page bit is 0 just at free pages.
 pub fn totals_sound(c: u64, bits: &[u64], words: &[u32], slots: &[u64]) -> Sums
-    requires { ⌜ admitOf c (pool (now bits) (now words) (now slots)) ≡ 0 ⌝ }
-    ensures { λ r. ⌜ r ≡ tallied c (pool (now (bits .entry)) (now (words .entry)) (now (slots .entry))) ⌝ }
+    requires { ⌜ admitOf c (lent bits words slots) ≡ 0 ⌝ }
+    ensures { λ r. ⌜ r ≡ tallied c (before bits words slots) ⌝ }
 {
     let t = tally_live(c, bits, words, slots);
     let n = 512 * (c as usize);
@@ -120,7 +120,7 @@ pub fn totals_sound(c: u64, bits: &[u64], words: &[u32], slots: &[u64]) -> Sums
 
 // Document 01's totals, or refusal 1 or 2.
 pub fn totals(c: u64, bits: &[u64], words: &[u32], slots: &[u64]) -> Sums
-    ensures { λ r. ⌜ r ≡ totalsOf c (pool (now (bits .entry)) (now (words .entry)) (now (slots .entry))) ⌝ }
+    ensures { λ r. ⌜ r ≡ totalsOf c (before bits words slots) ⌝ }
 {
     let a = admit::admit(c, bits, words, slots);
     if a != 0 {
