@@ -226,5 +226,5 @@ fresh-empty c =
 pub fresh-good : (c : ℕ) (p : Pool) → fit c p ≡ true → Good c (freshOf c p .left)
 fresh-good c p e =
     let s : Shape c p = shaped-lengths c _ _ _ e in
-    subst (λ (x : Left ℕ). Good c (x .left)) (sym (fresh-served c p e))
+    subst (λ (x : Left ℕ Pool). Good c (x .left)) (sym (fresh-served c p e))
     (record { shape = fresh-fit c (s .some-chunk) (s .few); whole = fresh-sound c })

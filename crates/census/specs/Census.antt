@@ -6,7 +6,7 @@ use lib.Dec.{ltb}
 use lib.ListN.{length}
 use lib.Seq.{sets}
 use Rattle.records.specs.Pool.{Pool}
-use Rattle.records.specs.Calls.{admitOf, unless}
+use Rattle.records.specs.Calls.{admitOf, unless, Left, leaves}
 use Rattle.blocks.specs.Blocks.{Block, live}
 use Rattle.census.specs.declared.Counted.{Counted}
 
@@ -18,20 +18,12 @@ wordsFor (b ∷ l) = b .place ∷ b .size ∷ wordsFor l
 abbrev pub counted : ℕ → ℕ → Counted
 counted r n = record { refusal = r; count = n }
 
--- what a census answers, and the room as it leaves it
-pub record Listed : Type 0 where
-  pub answer : Counted
-  pub room : List ℕ
-
-abbrev pub listed : Counted → List ℕ → Listed
-listed a room = record { answer = a; room = room }
-
 -- the work of a census on records that are sound: refusal 7 where the room is shorter than two words a live block
-unfoldable pub list : ℕ → Pool → List ℕ → Listed
+unfoldable pub list : ℕ → Pool → List ℕ → Left Counted (List ℕ)
 list c p room =
-    cond (ltb (length room) (2 * length (live c p))) (listed (counted 7 0) room)
-    (listed (counted 0 (length (live c p))) (sets room 0 (wordsFor (live c p))))
+    cond (ltb (length room) (2 * length (live c p))) (leaves (counted 7 0) room)
+    (leaves (counted 0 (length (live c p))) (sets room 0 (wordsFor (live c p))))
 
 -- the call
-unfoldable pub censusOf : ℕ → Pool → List ℕ → Listed
-censusOf c p room = unless (admitOf c p) (λ r. listed (counted r 0) room) (list c p room)
+unfoldable pub censusOf : ℕ → Pool → List ℕ → Left Counted (List ℕ)
+censusOf c p room = unless (admitOf c p) (λ r. leaves (counted r 0) room) (list c p room)

@@ -7,9 +7,9 @@ ghost use lib.Seq.{sets};
 ghost use Rattle.records.specs.declared.Kind.the-variants.{Class};
 ghost use Rattle.records.specs.Kinds.{slotsOf};
 ghost use Rattle.records.specs.Lent.{lent, before};
-ghost use Rattle.records.specs.Calls.{admitOf};
+ghost use Rattle.records.specs.Calls.{admitOf, leaves};
 ghost use Rattle.blocks.specs.Blocks.{block, pageBlocks, live};
-ghost use Rattle.census.specs.Census.{wordsFor, listed, list, censusOf};
+ghost use Rattle.census.specs.Census.{wordsFor, list, censusOf};
 ghost use Rattle.census.specs.Writes.{slotBlocks, NextTaken, Wrote};
 ghost use Rattle.census.specs.Means.{CensusMeans};
 
@@ -99,7 +99,7 @@ fn write_pages(c: u64, bits: &[u64], words: &[u32], slots: &[u64], room: &mut [u
 // The work of a census, on records that are sound. Half of the room is compared: twice the count might not fit a number.
 pub fn census_sound(c: u64, bits: &[u64], words: &[u32], slots: &[u64], room: &mut [u64]) -> Counted
     requires { ⌜ admitOf c (lent bits words slots) ≡ 0 ⌝ }
-    ensures { λ r. ⌜ listed r (now (room .exit)) ≡ list c (before bits words slots) (now (room .entry)) ⌝ }
+    ensures { λ r. ⌜ leaves r (now (room .exit)) ≡ list c (before bits words slots) (now (room .entry)) ⌝ }
 {
     let n = totals::live_count(c, bits, words, slots);
     if room.len() / 2 < n {
@@ -117,7 +117,7 @@ pub fn census_sound(c: u64, bits: &[u64], words: &[u32], slots: &[u64], room: &m
 
 // Document 01's census: the count of the live blocks, or refusal 1, 2 or 7 and nothing is written.
 pub fn census(c: u64, bits: &[u64], words: &[u32], slots: &[u64], room: &mut [u64]) -> Counted
-    ensures { λ r. ⌜ listed r (now (room .exit)) ≡ censusOf c (before bits words slots) (now (room .entry)) ⌝ }
+    ensures { λ r. ⌜ leaves r (now (room .exit)) ≡ censusOf c (before bits words slots) (now (room .entry)) ⌝ }
 {
     let a = admit::admit(c, bits, words, slots);
     if a != 0 {

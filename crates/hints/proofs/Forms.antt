@@ -90,10 +90,10 @@ module _ (c : ℕ) (p : Pool) (ok : admitOf c p ≡ 0) where
       go (Slot g b s) k = let h = admitted c p ok .shape in let i = k .inside in (omega arith, class-at-low p g b (k .kind))
 
 pub left-of : {A : Type 0} {a b : A} {p q : Pool} → leaves a p ≡ leaves b q → p ≡ q
-left-of {A} e = ap (λ (x : Left A). x .left) e
+left-of {A} e = ap (λ (x : Left A Pool). x .left) e
 
 -- the plan for n bytes, carried out
-pub attempted : (c : ℕ) (p : Pool) (n : ℕ) {x : Plan} {y : Left Reserved} → x ≡ plan c p n → y ≡ carried p x → y ≡ attempt c p n
+pub attempted : (c : ℕ) (p : Pool) (n : ℕ) {x : Plan} {y : Left Reserved Pool} → x ≡ plan c p n → y ≡ carried p x → y ≡ attempt c p n
 unfolding attempt
 attempted c p n e f = f ∙ ap (carried p) e
 

@@ -43,7 +43,7 @@ Fresh l = (c : ℕ) → c ≤ 16 → Hints c (freshPool c) l
 
 -- ---- what a plan comes to
 
-abbrev pub carried : Pool → Plan → Left Reserved
+abbrev pub carried : Pool → Plan → Left Reserved Pool
 carried p x = leaves (answer x) (perform p x)
 
 -- it is the plan for some number of bytes

@@ -12,6 +12,6 @@ pub flat-as : (r : Reserved) {k : Given} → r .kind ≡ k → flat (r .refusal)
 unfolding flatReserved
 flat-as r e = ap (flat (r .refusal) (r .place) (r .size)) (sym e)
 
-pub reserved-as : {r : Reserved} {p : Pool} {y : Left Reserved} (x : FlatReserved) → x ≡ flatReserved r → leaves r p ≡ y → leaves x p ≡ reservedOf y
+pub reserved-as : {r : Reserved} {p : Pool} {y : Left Reserved Pool} (x : FlatReserved) → x ≡ flatReserved r → leaves r p ≡ y → leaves x p ≡ reservedOf y
 unfolding reservedOf
 reserved-as {r} {p} x e f = ap (λ (a : FlatReserved). leaves a p) e ∙ ap reservedOf f

@@ -1,5 +1,6 @@
 -- Answers as plain structs: the kind of a reserve's answer is a number, and what does not apply is 0. Assumes nothing.
 use Prim.Native.Nat.{ℕ}
+use Rattle.records.specs.Pool.{Pool}
 use Rattle.records.specs.Calls.{Left, leaves}
 use Rattle.reserve.specs.declared.Given.{Given}
 use Rattle.reserve.specs.declared.Given.the-variants.{Slot, Run, None}
@@ -16,5 +17,5 @@ unfoldable pub flatReserved : Reserved → FlatReserved
 flatReserved r = flat (r .refusal) (r .place) (r .size) (r .kind)
 
 -- what a reserve leaves, with its answer so
-unfoldable pub reservedOf : Left Reserved → Left FlatReserved
+unfoldable pub reservedOf : Left Reserved Pool → Left FlatReserved Pool
 reservedOf x = leaves (flatReserved (x .answer)) (x .left)

@@ -5,11 +5,11 @@ ghost use Rattle.records.specs.Calls.{admitOf, leaves, freshOf};
 ghost use Rattle.reserve.specs.Reserve.{reserveOf};
 ghost use Rattle.release.specs.Release.{releaseOf, sizeOf};
 ghost use Rattle.next.specs.Next.{nextOf};
-ghost use Rattle.census.specs.Census.{listed, censusOf};
+ghost use Rattle.census.specs.Census.{censusOf};
 ghost use Rattle.totals.specs.Totals.{totalsOf};
 ghost use Rattle.bytes.specs.Bytes.{partOf};
 ghost use Rattle.replay.specs.Run.{replayOf};
-ghost use Rattle.lines.specs.Lines.{told, printedOf};
+ghost use Rattle.lines.specs.Lines.{printedOf};
 ghost use Rattle.lensember.specs.Flat.{flatReserved, reservedOf};
 
 // struct lensember_reserved: kind is 0 for nothing, 1 for a slot, 2 for a page run; what does not apply is 0.
@@ -156,7 +156,7 @@ pub extern "C" fn lensember_census(
     slots: &[u64],
     room: &mut [u64],
 ) -> census::Counted
-    ensures { λ r. ⌜ listed r (now (room .exit)) ≡ censusOf c (before bits words slots) (now (room .entry)) ⌝ }
+    ensures { λ r. ⌜ leaves r (now (room .exit)) ≡ censusOf c (before bits words slots) (now (room .entry)) ⌝ }
 {
     census::census(c, bits, words, slots, room)
 }
@@ -215,7 +215,7 @@ pub extern "C" fn lensember_lines(
     log: &[u8],
     out: &mut [u8],
 ) -> lines::Printed
-    ensures { λ r. ⌜ told r (after bits words slots) (now (out .exit)) ≡ printedOf c (before bits words slots) (now (log .entry)) (now (out .entry)) ⌝ }
+    ensures { λ r. ⌜ leaves r (after bits words slots, now (out .exit)) ≡ printedOf c (before bits words slots) (now (log .entry)) (now (out .entry)) ⌝ }
 {
     lines::lines(c, bits, words, slots, log, out)
 }

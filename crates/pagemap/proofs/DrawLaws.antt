@@ -11,14 +11,15 @@ use Rattle.text.specs.Text.{Appends}
 use Rattle.text.proofs.TextLaws.{appends-none, appends-more, appends-length}
 use Rattle.totals.specs.declared.Sums.{Sums}
 use Rattle.totals.specs.Totals.{tallied}
-use Rattle.records.specs.Calls.{admitOf}
+use Rattle.records.specs.Calls.{admitOf, Left, leaves}
 use Rattle.records.proofs.Flags.{cond-lt, cond-nlt}
 use Rattle.records.proofs.AdmitLaws.{refused, served}
 use Rattle.records.specs.Pool.{Pool}
 use Rattle.cells.specs.declared.Cell.{Cell}
 use Rattle.cells.specs.Cells.{noCell, cellAt}
+use Rattle.pagemap.specs.declared.Drawn.{Drawn}
 use Rattle.pagemap.specs.Drawing.{headOf, pageOf, footOf, pagesFrom}
-use Rattle.pagemap.specs.Drawing.{headRoom, pageRoom, footRoom, roomFor, drawing, Shown, drawnAs, shown, showing, drawnOf}
+use Rattle.pagemap.specs.Drawing.{headRoom, pageRoom, footRoom, roomFor, drawing, drawnAs, showing, drawnOf}
 use Rattle.cells.proofs.CellLaws.{Shows}
 
 -- ---- the pages one after the other
@@ -86,7 +87,7 @@ room-whole v c h = h
 
 module _ (v : Bool) (c : ℕ) (p : Pool) {o a b d : List ℕ} {i j k : ℕ} (x : Appends o a 0 i (headOf v c))
     (y : Appends a b i j (pagesFrom v p noCell 0 (512 * c))) where
-  pub draw-made : {t : Sums} {n : ℕ} → t ≡ tallied c p → Appends b d j k (footOf v c t) → n ≡ k → shown (drawnAs 0 n) d ≡ showing v c p o
+  pub draw-made : {t : Sums} {n : ℕ} → t ≡ tallied c p → Appends b d j k (footOf v c t) → n ≡ k → leaves (drawnAs 0 n) d ≡ showing v c p o
   unfolding showing drawing
   draw-made {t} {n} e z f =
       let w : Appends o d 0 k (headOf v c ++ (pagesFrom v p noCell 0 (512 * c) ++ footOf v c (tallied c p))) =
@@ -105,19 +106,19 @@ unfolding roomFor
 room-text c e = rw e (omega arith)
 
 module _ (v : Bool) (c : ℕ) (p : Pool) (out : List ℕ) {n : ℕ} (e : n ≡ admitOf c p) where
-  pub draw-refused : n ≢ 0 → shown (drawnAs n 0) out ≡ drawnOf v c p out
+  pub draw-refused : n ≢ 0 → leaves (drawnAs n 0) out ≡ drawnOf v c p out
   unfolding drawnOf
-  draw-refused z = refused (admitOf c p) n (λ r. shown (drawnAs r 0) out) _ e z
+  draw-refused z = refused (admitOf c p) n (λ r. leaves (drawnAs r 0) out) _ e z
 
   module _ (z : n ≡ 0) where
-    pub draw-short : length out < roomFor v c → shown (drawnAs 7 0) out ≡ drawnOf v c p out
+    pub draw-short : length out < roomFor v c → leaves (drawnAs 7 0) out ≡ drawnOf v c p out
     unfolding drawnOf
     draw-short h =
-        sym (cond-lt (length out) (roomFor v c) (shown (drawnAs 7 0) out) (showing v c p out) h)
-        ∙ served (admitOf c p) n (λ r. shown (drawnAs r 0) out) _ e z
+        sym (cond-lt (length out) (roomFor v c) (leaves (drawnAs 7 0) out) (showing v c p out) h)
+        ∙ served (admitOf c p) n (λ r. leaves (drawnAs r 0) out) _ e z
 
-    pub draw-whole : roomFor v c ≤ length out → {s : Shown} → s ≡ showing v c p out → s ≡ drawnOf v c p out
+    pub draw-whole : roomFor v c ≤ length out → {s : Left Drawn (List ℕ)} → s ≡ showing v c p out → s ≡ drawnOf v c p out
     unfolding drawnOf
     draw-whole h k =
-        k ∙ sym (cond-nlt (length out) (roomFor v c) (shown (drawnAs 7 0) out) (showing v c p out) h)
-        ∙ served (admitOf c p) n (λ r. shown (drawnAs r 0) out) _ e z
+        k ∙ sym (cond-nlt (length out) (roomFor v c) (leaves (drawnAs 7 0) out) (showing v c p out) h)
+        ∙ served (admitOf c p) n (λ r. leaves (drawnAs r 0) out) _ e z

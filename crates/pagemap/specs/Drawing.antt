@@ -7,7 +7,7 @@ use lib.ListN.{length}
 use lib.Seq.{sets}
 use Rattle.bitrow.specs.Row.{digit}
 use Rattle.records.specs.Pool.{Pool}
-use Rattle.records.specs.Calls.{admitOf, unless}
+use Rattle.records.specs.Calls.{admitOf, unless, Left, leaves}
 use Rattle.totals.specs.declared.Sums.{Sums}
 use Rattle.totals.specs.Totals.{tallied}
 use Rattle.text.specs.Ascii.{ascii}
@@ -124,20 +124,12 @@ roomFor v c = headRoom v + (pageRoom v * (512 * c) + footRoom v)
 abbrev pub drawnAs : ℕ → ℕ → Drawn
 drawnAs r n = record { refusal = r; length = n }
 
--- what the call answers, and the buffer as it leaves it
-pub record Shown : Type 0 where
-  pub answer : Drawn
-  pub out : List ℕ
-
-abbrev pub shown : Drawn → List ℕ → Shown
-shown a out = record { answer = a; out = out }
-
 -- the drawing stands at the buffer's front
-unfoldable pub showing : Bool → ℕ → Pool → List ℕ → Shown
-showing v c p out = shown (drawnAs 0 (length (drawing v c p))) (sets out 0 (drawing v c p))
+unfoldable pub showing : Bool → ℕ → Pool → List ℕ → Left Drawn (List ℕ)
+showing v c p out = leaves (drawnAs 0 (length (drawing v c p))) (sets out 0 (drawing v c p))
 
 -- refusal 1 or 2, then 7 where the buffer has not room enough; each changes nothing
-unfoldable pub drawnOf : Bool → ℕ → Pool → List ℕ → Shown
+unfoldable pub drawnOf : Bool → ℕ → Pool → List ℕ → Left Drawn (List ℕ)
 drawnOf v c p out =
-    unless (admitOf c p) (λ r. shown (drawnAs r 0) out)
-    (cond (ltb (length out) (roomFor v c)) (shown (drawnAs 7 0) out) (showing v c p out))
+    unless (admitOf c p) (λ r. leaves (drawnAs r 0) out)
+    (cond (ltb (length out) (roomFor v c)) (leaves (drawnAs 7 0) out) (showing v c p out))

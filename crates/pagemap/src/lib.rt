@@ -5,11 +5,11 @@ ghost use mathlib.Core.Bool.{true, false};
 ghost use Prim.Native.Nat.{_+_, _*_, _≤_, _<_};
 ghost use lib.ListN.{length, take};
 ghost use Rattle.records.specs.Lent.{lent, before};
-ghost use Rattle.records.specs.Calls.{admitOf};
+ghost use Rattle.records.specs.Calls.{admitOf, leaves};
 ghost use Rattle.text.specs.Text.{Appends};
 ghost use Rattle.cells.specs.Cells.{noCell};
 ghost use Rattle.pagemap.specs.Drawing.{svgPage, headOf, pageOf, footOf, pagesFrom};
-ghost use Rattle.pagemap.specs.Drawing.{headRoom, pageRoom, footRoom, roomFor, shown, showing, drawnOf};
+ghost use Rattle.pagemap.specs.Drawing.{headRoom, pageRoom, footRoom, roomFor, showing, drawnOf};
 
 // The answer; C reads it as it is.
 #[repr(C)]
@@ -176,7 +176,7 @@ fn draw_sound(
     out: &mut [u8],
 ) -> Drawn
     requires { ⌜ (admitOf c (lent bits words slots) ≡ 0) × (roomFor svg c ≤ length (now out)) ⌝ }
-    ensures { λ r. ⌜ shown r (now (out .exit))
+    ensures { λ r. ⌜ leaves r (now (out .exit))
         ≡ showing svg c (before bits words slots) (now (out .entry)) ⌝ }
     ensures { λ r. ⌜ r .length ≤ length (now (out .exit)) ⌝ }
 {
@@ -204,7 +204,7 @@ fn room_for(svg: bool, c: u64) -> usize
 
 // The drawing, behind the check of the records.
 fn draw(svg: bool, c: u64, bits: &[u64], words: &[u32], slots: &[u64], out: &mut [u8]) -> Drawn
-    ensures { λ r. ⌜ shown r (now (out .exit))
+    ensures { λ r. ⌜ leaves r (now (out .exit))
         ≡ drawnOf svg c (before bits words slots) (now (out .entry)) ⌝ }
     ensures { λ r. ⌜ r .length ≤ length (now (out .exit)) ⌝ }
 {
@@ -227,7 +227,7 @@ fn draw(svg: bool, c: u64, bits: &[u64], words: &[u32], slots: &[u64], out: &mut
 // The map of the pool as text, at the front of the lent buffer. Refusal 1 or 2, or 7 where the buffer is too short for some pool of c
 // chunks: 14,848 bytes for each chunk, and 256.
 pub fn draw_text(c: u64, bits: &[u64], words: &[u32], slots: &[u64], out: &mut [u8]) -> Drawn
-    ensures { λ r. ⌜ shown r (now (out .exit))
+    ensures { λ r. ⌜ leaves r (now (out .exit))
         ≡ drawnOf false c (before bits words slots) (now (out .entry)) ⌝ }
     ensures { λ r. ⌜ (r .length ≤ length (now (out .exit))) × (r .length ≡ length (take (r .length) (now (out .exit)))) ⌝ }
 {
@@ -236,7 +236,7 @@ pub fn draw_text(c: u64, bits: &[u64], words: &[u32], slots: &[u64], out: &mut [
 
 // The same as an SVG picture; the room is 215,040 bytes for each chunk, and 2,048.
 pub fn draw_svg(c: u64, bits: &[u64], words: &[u32], slots: &[u64], out: &mut [u8]) -> Drawn
-    ensures { λ r. ⌜ shown r (now (out .exit))
+    ensures { λ r. ⌜ leaves r (now (out .exit))
         ≡ drawnOf true c (before bits words slots) (now (out .entry)) ⌝ }
     ensures { λ r. ⌜ (r .length ≤ length (now (out .exit))) × (r .length ≡ length (take (r .length) (now (out .exit)))) ⌝ }
 {

@@ -26,13 +26,13 @@ abbrev pub unless : {A : Type 0} → ℕ → (ℕ → A) → A → A
 unless zero refuse work = work
 unless (suc n) refuse work = refuse (suc n)
 
--- what a call answers, and the pool as it leaves it
-pub record Left (A : Type 0) : Type 0 where
+-- what a call answers, and what it was lent as it leaves it
+pub record Left (A S : Type 0) : Type 0 where
   pub answer : A
-  pub left : Pool
+  pub left : S
 
-abbrev pub leaves : {A : Type 0} → A → Pool → Left A
-leaves a p = record { answer = a; left = p }
+abbrev pub leaves : {A S : Type 0} → A → S → Left A S
+leaves a x = record { answer = a; left = x }
 
 -- c chunks alike
 unfoldable pub repeat : ℕ → List ℕ → List ℕ
@@ -44,5 +44,5 @@ unfoldable pub freshPool : ℕ → Pool
 freshPool c = pool (repeat c (1 ∷ zeros 7)) (repeat c (edgeWord ∷ zeros 511)) (zeros (4096 * c))
 
 -- fresh: refusal 1 or 0
-unfoldable pub freshOf : ℕ → Pool → Left ℕ
+unfoldable pub freshOf : ℕ → Pool → Left ℕ Pool
 freshOf c p = cond (fit c p) (leaves 0 (freshPool c)) (leaves 1 p)

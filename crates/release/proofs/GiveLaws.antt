@@ -124,7 +124,7 @@ first-cleared (suc n) l g a h = first-stored 0 n l g h
 -- ---- the work of a release
 
 -- what is given back, and what is answered
-abbrev gave : Pool → Spot → Left ℕ
+abbrev gave : Pool → Spot → Left ℕ Pool
 gave p x = leaves (released x) (giveBack p x)
 
 module _ (p : Pool) {x : Spot} where
@@ -172,7 +172,7 @@ module _ (c : ℕ) (p : Pool) (q n : ℕ) (e : n ≡ admitOf c p) where
   unfolding releaseOf
   release-refused z = refused (admitOf c p) n (λ r. leaves r p) (give c p q) e z
 
-  pub release-served : n ≡ 0 → {x : Left ℕ} → x ≡ give c p q → x ≡ releaseOf c p q
+  pub release-served : n ≡ 0 → {x : Left ℕ Pool} → x ≡ give c p q → x ≡ releaseOf c p q
   unfolding releaseOf
   release-served z f = f ∙ served (admitOf c p) n (λ r. leaves r p) (give c p q) e z
 

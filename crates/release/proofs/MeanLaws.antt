@@ -125,7 +125,7 @@ pub release-give : (c : ℕ) (p : Pool) → Good c p → (q : ℕ) → releaseOf
 release-give c p h q = sym (release-served c p q 0 (sym (good-admit c p h)) refl refl)
 
 pub release-good : (c : ℕ) (p : Pool) → Good c p → (q : ℕ) → Good c (releaseOf c p q .left)
-release-good c p h q = subst (λ (x : Left ℕ). Good c (x .left)) (sym (release-give c p h q)) (go (give c p q .answer) refl)
+release-good c p h q = subst (λ (x : Left ℕ Pool). Good c (x .left)) (sym (release-give c p h q)) (go (give c p q .answer) refl)
   where
     go : (r : ℕ) → give c p q .answer ≡ r → Good c (give c p q .left)
     go zero e = release-means .served c p h q e .3 .good

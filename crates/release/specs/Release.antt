@@ -68,11 +68,11 @@ released (Run g n) = 0
 released (Slot g b s) = 0
 
 -- the work of a release on records that are sound
-unfoldable pub give : ℕ → Pool → ℕ → Left ℕ
+unfoldable pub give : ℕ → Pool → ℕ → Left ℕ Pool
 give c p q = leaves (released (spot c p q)) (giveBack p (spot c p q))
 
 -- the call
-unfoldable pub releaseOf : ℕ → Pool → ℕ → Left ℕ
+unfoldable pub releaseOf : ℕ → Pool → ℕ → Left ℕ Pool
 releaseOf c p q = unless (admitOf c p) (λ r. leaves r p) (give c p q)
 
 -- ---- block size

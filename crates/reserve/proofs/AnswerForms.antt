@@ -74,6 +74,6 @@ module _ (c : ℕ) (p : Pool) (n a : ℕ) (e : a ≡ admitOf c p) where
   unfolding reserveOf
   reserve-refused z = refused (admitOf c p) a (λ r. leaves (reserve.refused r) p) (attempt c p n) e z
 
-  pub reserve-served : a ≡ 0 → {x : Left Reserved} → x ≡ attempt c p n → x ≡ reserveOf c p n
+  pub reserve-served : a ≡ 0 → {x : Left Reserved Pool} → x ≡ attempt c p n → x ≡ reserveOf c p n
   unfolding reserveOf
   reserve-served z f = f ∙ served (admitOf c p) a (λ r. leaves (reserve.refused r) p) (attempt c p n) e z

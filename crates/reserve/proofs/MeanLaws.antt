@@ -205,7 +205,7 @@ reserve-try c p h n = sym (reserve-served c p n 0 (sym (good-admit c p h)) refl 
 
 pub reserve-good : (c : ℕ) (p : Pool) → Good c p → (n : ℕ) → Good c (reserveOf c p n .left)
 reserve-good c p h n =
-    subst (λ (x : Left Reserved). Good c (x .left)) (sym (reserve-try c p h n)) (go (attempt c p n .answer .refusal) refl)
+    subst (λ (x : Left Reserved Pool). Good c (x .left)) (sym (reserve-try c p h n)) (go (attempt c p n .answer .refusal) refl)
   where
     go : (r : ℕ) → attempt c p n .answer .refusal ≡ r → Good c (attempt c p n .left)
     go zero e = reserve-means .served c p h n e .good

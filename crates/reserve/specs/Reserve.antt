@@ -86,9 +86,9 @@ answer (NewRun g b) = slotGiven g b 0
 answer (NewLarge g n) = record { refusal = 0; place = 4096 * g; size = 4096 * n; kind = Run n }
 
 -- a try on given records
-unfoldable pub attempt : ℕ → Pool → ℕ → Left Reserved
+unfoldable pub attempt : ℕ → Pool → ℕ → Left Reserved Pool
 attempt c p n = leaves (answer (plan c p n)) (perform p (plan c p n))
 
 -- the call
-unfoldable pub reserveOf : ℕ → Pool → ℕ → Left Reserved
+unfoldable pub reserveOf : ℕ → Pool → ℕ → Left Reserved Pool
 reserveOf c p n = unless (admitOf c p) (λ r. leaves (refused r) p) (attempt c p n)

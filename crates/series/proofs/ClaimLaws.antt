@@ -13,7 +13,7 @@ use Rattle.records.proofs.AdmitLaws.{lengths-shaped}
 use Rattle.records.proofs.FreshLaws.{fresh-served}
 use Rattle.blocks.specs.Blocks.{Block, live, Rising}
 use Rattle.blocks.proofs.ApartLaws.{live-rising, live-off}
-use Rattle.census.specs.Census.{wordsFor, counted, listed, censusOf}
+use Rattle.census.specs.Census.{wordsFor, counted, censusOf}
 use Rattle.census.proofs.MeanLaws.{census-means}
 use Rattle.series.specs.Demand3.{State, state, sort, Demand3, Claim}
 use Rattle.series.proofs.BookLaws.{length-sort, in-sort, rising-apart}
@@ -27,12 +27,12 @@ module _ (c : ℕ) (x : State) (h : Booked c x) where
 
   census-lists : (room : List ℕ) → 2 * length (x .book) ≤ length room
       → censusOf c (x .pool) room
-      ≡ listed (counted 0 (length (x .book))) (wordsFor (sort (x .book)) ++ drop (2 * length (x .book)) room)
+      ≡ leaves (counted 0 (length (x .book))) (wordsFor (sort (x .book)) ++ drop (2 * length (x .book)) room)
   census-lists room k =
       let n = count in
       census-means .served c (x .pool) room (h .good) (omega arith)
-      ∙ ap (λ (m : ℕ). listed (counted 0 m) (wordsFor (live c (x .pool)) ++ drop (2 * m) room)) n
-      ∙ ap (λ (l : List Block). listed (counted 0 (length (x .book))) (wordsFor l ++ drop (2 * length (x .book)) room)) (h .listed)
+      ∙ ap (λ (m : ℕ). leaves (counted 0 m) (wordsFor (live c (x .pool)) ++ drop (2 * m) room)) n
+      ∙ ap (λ (l : List Block). leaves (counted 0 (length (x .book))) (wordsFor l ++ drop (2 * length (x .book)) room)) (h .listed)
 
   book-rising : Rising 0 (sort (x .book)) (2097152 * c)
   book-rising = subst (λ (l : List Block). Rising 0 l (2097152 * c)) (h .listed) (live-rising c (x .pool) (h .good))
@@ -61,7 +61,7 @@ fresh-fits c p e = go (fit c p) refl e
 -- buffers of the right lengths, of zeros
 zeros-open : (c : ℕ) → 1 ≤ c → c ≤ 16 → freshOf c (pool (zeros (8 * c)) (zeros (512 * c)) (zeros (4096 * c))) .answer ≡ 0
 zeros-open c l m =
-    ap (λ (y : Left ℕ). y .answer)
+    ap (λ (y : Left ℕ Pool). y .answer)
     (fresh-served c (pool (zeros (8 * c)) (zeros (512 * c)) (zeros (4096 * c)))
     (sym (lengths-shaped c _ _ _ (record {
       some-chunk = l;

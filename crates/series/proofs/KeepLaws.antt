@@ -25,7 +25,7 @@ use Rattle.release.proofs.MeanLaws.{release-means}
 use Rattle.replay.specs.declared.Event.{Event}
 use Rattle.replay.specs.Run.{reserveEvent, releaseEvent, Run, ended, runFrom, runOf, replayOf}
 use Rattle.replay.proofs.RunLaws.{over-from}
-use Rattle.lines.specs.Lines.{roomFor, printed, told, telling, printedOf}
+use Rattle.lines.specs.Lines.{roomFor, printed, telling, printedOf}
 use Rattle.series.specs.Demand3.{takeOut, note, notes, State, state, call, series, insert, sort}
 use Rattle.series.specs.Demand3.{Call, check, fresh, totals, reserve, release, blockSize, next, census, replay, lines, bytes}
 use Rattle.series.proofs.BookLaws.{ins-insert, ins-out, sort-out}
@@ -58,7 +58,7 @@ lost c x p q b h e g =
 kept : (c : ℕ) (x : State) (p : Pool) (r : ℕ) → Booked c x → r ≢ 0 → ((k : ℕ) → r ≡ suc k → p ≡ x .pool) → Booked c (state p (x .book))
 kept c x p r h n e = subst (λ (q : Pool). Booked c (state q (x .book))) (sym (e (r - 1) (omega arith))) h
 
-reserve-noted : (c n : ℕ) (x : State) (y : Left Reserved) → Booked c x
+reserve-noted : (c n : ℕ) (x : State) (y : Left Reserved Pool) → Booked c x
     → (y .answer .refusal ≡ 0 → Gains c (x .pool) (y .left) (blockOf (y .answer)))
     → ((k : ℕ) → y .answer .refusal ≡ suc k → y .left ≡ x .pool) → Booked c (state (y .left) (note (reserveEvent n (y .answer)) (x .book)))
 unfolding note reserveEvent
@@ -66,7 +66,7 @@ reserve-noted c n x y h f g =
     eq-cases (λ (e : Event). Booked c (state (y .left) (note e (x .book)))) (y .answer .refusal) 0
     (λ e. gained c x (y .left) (blockOf (y .answer)) h (f e)) (λ e. kept c x (y .left) (y .answer .refusal) h e g)
 
-release-noted : (c q : ℕ) (x : State) (y : Left ℕ) → Booked c x
+release-noted : (c q : ℕ) (x : State) (y : Left ℕ Pool) → Booked c x
     → (y .answer ≡ 0 → (b : Block) × (b .place ≡ q) × Loses c (x .pool) (y .left) b)
     → ((k : ℕ) → y .answer ≡ suc k → y .left ≡ x .pool) → Booked c (state (y .left) (note (releaseEvent q (y .answer)) (x .book)))
 unfolding note releaseEvent
@@ -77,7 +77,7 @@ release-noted c q x y h f g =
 pub fresh-noted : (c : ℕ) (p : Pool) → fit c p ≡ true → Booked c (state (freshOf c p .left) [])
 unfolding sort
 fresh-noted c p e =
-    record { good = fresh-good c p e; listed = ap (λ (y : Left ℕ). live c (y .left)) (fresh-served c p e) ∙ fresh-empty c }
+    record { good = fresh-good c p e; listed = ap (λ (y : Left ℕ Pool). live c (y .left)) (fresh-served c p e) ∙ fresh-empty c }
 
 -- ---- a call of d chunks on a pool of c chunks
 
@@ -110,13 +110,13 @@ module _ (c d : ℕ) (x : State) (h : Booked c x) where
   unfolding call note freshOf
   fresh-keeps =
       let e = h .good .shape in
-      fit-cases (λ (y : Left ℕ). Booked c (state (y .left) (cond (eqb (y .answer) 0) [] (x .book)))) (λ m. leaves 0 (freshPool m))
-      (subst (λ (y : Left ℕ). Booked c (state (y .left) [])) (fresh-served c (x .pool) e) (fresh-noted c (x .pool) e)) h
+      fit-cases (λ (y : Left ℕ Pool). Booked c (state (y .left) (cond (eqb (y .answer) 0) [] (x .book)))) (λ m. leaves 0 (freshPool m))
+      (subst (λ (y : Left ℕ Pool). Booked c (state (y .left) [])) (fresh-served c (x .pool) e) (fresh-noted c (x .pool) e)) h
 
   reserve-keeps : (n : ℕ) → Booked c (call (reserve d n) x)
   unfolding call reserveOf
   reserve-keeps n =
-      admit-cases (λ (y : Left Reserved). Booked c (state (y .left) (note (reserveEvent n (y .answer)) (x .book))))
+      admit-cases (λ (y : Left Reserved Pool). Booked c (state (y .left) (note (reserveEvent n (y .answer)) (x .book))))
       (λ m. attempt m (x .pool) n) (λ r. leaves (refused r) (x .pool))
       (reserve-noted c n x (attempt c (x .pool) n) h (reserve-means .served c (x .pool) (h .good) n) (reserve-means .refused c (x .pool) n))
       (λ r. reserve-noted c n x (leaves (refused (suc r)) (x .pool)) h (λ e. absurd (omega arith)) (λ k e. refl))
@@ -124,7 +124,7 @@ module _ (c d : ℕ) (x : State) (h : Booked c x) where
   release-keeps : (q : ℕ) → Booked c (call (release d q) x)
   unfolding call releaseOf
   release-keeps q =
-      admit-cases (λ (y : Left ℕ). Booked c (state (y .left) (note (releaseEvent q (y .answer)) (x .book))))
+      admit-cases (λ (y : Left ℕ Pool). Booked c (state (y .left) (note (releaseEvent q (y .answer)) (x .book))))
       (λ m. give m (x .pool) q) (λ r. leaves r (x .pool))
       (release-noted c q x (give c (x .pool) q) h
       (λ e. let (b, at, size, less) = release-means .served c (x .pool) (h .good) q e in (b, at, less))
@@ -151,12 +151,12 @@ run-keeps c x h k log at turn =
 
 -- the printed lines leave what the replay leaves, unless the buffer is refused
 lines-left : (d : ℕ) (p : Pool) (log out : List ℕ)
-    → printedOf d p log out .left ≡ cond (ltb (length out) (roomFor (length log))) p (runOf d p log .left)
+    → printedOf d p log out .left .0 ≡ cond (ltb (length out) (roomFor (length log))) p (runOf d p log .left)
 unfolding printedOf telling runOf
 lines-left d p log out = go (fit d p) (ltb (length out) (roomFor (length log))) (runFrom (suc (length log)) d p log 0 0)
   where
     go : (v t : Bool) (r : Run)
-        → cond v (cond t (told (printed 7 0 0) p out) (telling d (cond v r (ended 1 0 p)) out)) (told (printed 1 0 0) p out) .left
+        → cond v (cond t (leaves (printed 7 0 0) (p, out)) (telling d (cond v r (ended 1 0 p)) out)) (leaves (printed 1 0 0) (p, out)) .left .0
         ≡ cond t p (cond v r (ended 1 0 p) .left)
     go true true r = refl
     go true false r = refl

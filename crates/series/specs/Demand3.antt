@@ -10,11 +10,11 @@ use lib.Dec.{eqb, leb, ltb}
 use lib.ListN.{length, drop, getD}
 use Rattle.records.specs.Kinds.{zeros}
 use Rattle.records.specs.Pool.{Pool, pool}
-use Rattle.records.specs.Calls.{freshOf}
+use Rattle.records.specs.Calls.{freshOf, leaves}
 use Rattle.blocks.specs.Blocks.{Block, block, Rising}
 use Rattle.reserve.specs.Reserve.{reserveOf}
 use Rattle.release.specs.Release.{releaseOf}
-use Rattle.census.specs.Census.{wordsFor, counted, listed, censusOf}
+use Rattle.census.specs.Census.{wordsFor, counted, censusOf}
 use Rattle.replay.specs.declared.Event.{Event}
 use Rattle.replay.specs.declared.Event.the-variants.{Started, Served, Denied, Freed, Kept, Ended}
 use Rattle.replay.specs.Run.{reserveEvent, releaseEvent, runOf, replayOf}
@@ -77,7 +77,7 @@ call (release c q) x = state (releaseOf c (x .pool) q .left) (note (releaseEvent
 call (replay c log) x = state (replayOf c (x .pool) log .left) (notes (runOf c (x .pool) log .events) (x .book))
 -- a replay, unless the buffer is refused
 call (lines c log out) x =
-    state (printedOf c (x .pool) log out .left)
+    state (printedOf c (x .pool) log out .left .0)
     (cond (ltb (length out) (roomFor (length log))) (x .book) (notes (runOf c (x .pool) log .events) (x .book)))
 call (check c) x = x
 call (blockSize c q) x = x
@@ -111,7 +111,7 @@ pub record Demand3 (c : ℕ) (x : State) : Type 0 where
   -- are the book's blocks by rising place, place then size; the words behind them are as they were
   pub census : (room : List ℕ) → 2 * length (x .book) ≤ length room
       → censusOf c (x .pool) room
-      ≡ listed (counted 0 (length (x .book))) (wordsFor (sort (x .book)) ++ drop (2 * length (x .book)) room)
+      ≡ leaves (counted 0 (length (x .book))) (wordsFor (sort (x .book)) ++ drop (2 * length (x .book)) room)
   -- they rise, none is empty, each ends at or before the next one's place, and all lie inside the pool
   pub rising : Rising 0 (sort (x .book)) (2097152 * c)
   -- no two of them share a byte
