@@ -1,4 +1,6 @@
 // The record check, in one pass over the pages: refusals 1 and 2 of each call on an existing pool.
+use refusals::DAMAGED;
+use refusals::SHAPE;
 ghost use mathlib.Core.Path.{_≡_};
 ghost use mathlib.Core.Bool.{true, false};
 ghost use mathlib.Core.List.{[]};
@@ -311,10 +313,10 @@ pub fn admit(c: u64, bits: &[u64], words: &[u32], slots: &[u64]) -> u64
     ensures { λ r. ⌜ r ≡ admitOf c (before bits words slots) ⌝ }
 {
     if !records::is_shaped(c, bits.len(), words.len(), slots.len()) {
-        return 1;
+        return SHAPE;
     }
     if !pages_sound(bits, words, slots, 8 * (c as usize)) {
-        return 2;
+        return DAMAGED;
     }
     0
 }

@@ -11,6 +11,7 @@ use lib.Dec.{eqb, leb}
 use lib.ListN.{length, take, drop, length-drop}
 use lib.Seq.{length-take-le}
 use borrow.Author.Tests.{eq-eqb, ne-eqb, eqb-true, le-leb, lt-leb}
+use Rattle.refusals.specs.Refusals.{shape}
 use Rattle.records.specs.Pool.{Pool}
 use Rattle.records.proofs.Flags.{flag-eq, eq-cases, cond-eq, cond-ne, and-right}
 use Rattle.release.specs.declared.Sized.{Sized}
@@ -57,11 +58,11 @@ fits-long ear c n e = eqb-true n (2097152 * c) (and-right (leb ear 1) (eqb n (20
 
 module _ (ear c : ℕ) (p : Pool) (q nleft nright : ℕ) where
   part-by : {v u : Bool} → v ≡ earFits ear c (chosen ear nleft nright) → v ≡ u
-      → cond u (partAt q (sizeOf c p q)) (part 1 0 0) ≡ partOf ear c p q nleft nright
+      → cond u (partAt q (sizeOf c p q)) (part shape 0 0) ≡ partOf ear c p q nleft nright
   unfolding partOf
-  part-by e f = ap (λ (t : Bool). cond t (partAt q (sizeOf c p q)) (part 1 0 0)) (sym f ∙ e)
+  part-by e f = ap (λ (t : Bool). cond t (partAt q (sizeOf c p q)) (part shape 0 0)) (sym f ∙ e)
 
-  pub part-unfit : {v : Bool} → v ≡ earFits ear c (chosen ear nleft nright) → v ≡ false → part 1 0 0 ≡ partOf ear c p q nleft nright
+  pub part-unfit : {v : Bool} → v ≡ earFits ear c (chosen ear nleft nright) → v ≡ false → part shape 0 0 ≡ partOf ear c p q nleft nright
   part-unfit e f = part-by e f
 
   module _ {v : Bool} {s : Sized} (e : v ≡ earFits ear c (chosen ear nleft nright)) (f : v ≡ true) (h : s ≡ sizeOf c p q) where
@@ -88,7 +89,7 @@ module _ (ear c : ℕ) (p : Pool) (q nleft nright : ℕ) where
   part-in = go (earFits ear c (chosen ear nleft nright)) refl
     where
       go : (v : Bool) → earFits ear c (chosen ear nleft nright) ≡ v
-          → In c p q (chosen ear nleft nright) (cond v (partAt q (sizeOf c p q)) (part 1 0 0))
+          → In c p q (chosen ear nleft nright) (cond v (partAt q (sizeOf c p q)) (part shape 0 0))
       go true e =
           eq-cases (In c p q (chosen ear nleft nright)) (sizeOf c p q .refusal) 0
           (λ z. let h = size-inside c p q z in

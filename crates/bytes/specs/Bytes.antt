@@ -4,6 +4,7 @@ use mathlib.Core.List.{List}
 use Prim.Native.Nat.{ℕ, _*_}
 use lib.Dec.{eqb, leb}
 use lib.ListN.{length, take, drop}
+use Rattle.refusals.specs.Refusals.{shape}
 use Rattle.records.specs.Pool.{Pool}
 use Rattle.release.specs.declared.Sized.{Sized}
 use Rattle.release.specs.Release.{sizeOf}
@@ -26,7 +27,7 @@ partAt q s = cond (eqb (s .refusal) 0) (part 0 q (s .size)) (part (s .refusal) 0
 
 -- the part within the chosen arena, by the lengths of both; or refusal 1, 2, 5 or 6 and nothing
 unfoldable pub partOf : ℕ → ℕ → Pool → ℕ → ℕ → ℕ → Part
-partOf ear c p q nleft nright = cond (earFits ear c (chosen ear nleft nright)) (partAt q (sizeOf c p q)) (part 1 0 0)
+partOf ear c p q nleft nright = cond (earFits ear c (chosen ear nleft nright)) (partAt q (sizeOf c p q)) (part shape 0 0)
 
 -- the call for the part: its bytes
 unfoldable pub bytesOf : ℕ → ℕ → Pool → ℕ → List ℕ → List ℕ → List ℕ

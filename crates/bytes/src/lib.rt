@@ -1,4 +1,5 @@
 // Bytes: a block's part of one ear's arena.
+use refusals::SHAPE;
 ghost use mathlib.Core.Path.{_≡_};
 ghost use Prim.Native.Nat.{_*_};
 ghost use lib.Dec.{eqb};
@@ -52,7 +53,7 @@ pub fn part_of(
 {
     if !ear_fits(ear, c, nleft, nright) {
         return Part {
-            refusal: 1,
+            refusal: SHAPE,
             start: 0,
             size: 0,
         };

@@ -8,10 +8,12 @@ use native.Mathlib.Decide.{decLt}
 use native.Mathlib.Omega.{arith}
 use lib.ListN.{length}
 use lib.Seq.{sets}
+use Rattle.refusals.proofs.CallLaws.{refused, served}
+use Rattle.refusals.specs.Refusals.{unless, shortRoom}
 use Rattle.records.specs.Pool.{Pool}
-use Rattle.records.specs.Calls.{admitOf, unless, Left, leaves}
+use Rattle.records.specs.Calls.{admitOf, Left, leaves}
 use Rattle.records.proofs.Flags.{cond-lt, cond-nlt}
-use Rattle.records.proofs.AdmitLaws.{admit-fit, refused, served}
+use Rattle.records.proofs.AdmitLaws.{admit-fit}
 use Rattle.blocks.specs.Blocks.{live}
 use Rattle.blocks.specs.Stores.{Good}
 use Rattle.census.specs.declared.Counted.{Counted}
@@ -22,7 +24,7 @@ use Rattle.census.proofs.WriteLaws.{words-behind}
 -- ---- the work on sound records
 
 module _ (c : ℕ) (p : Pool) (room : List ℕ) where
-  pub list-short : length room < 2 * length (live c p) → leaves (counted 7 0) room ≡ list c p room
+  pub list-short : length room < 2 * length (live c p) → leaves (counted shortRoom 0) room ≡ list c p room
   unfolding list
   list-short h = sym (cond-lt (length room) (2 * length (live c p)) _ _ h)
 
@@ -32,7 +34,7 @@ module _ (c : ℕ) (p : Pool) (room : List ℕ) where
   list-long h = sym (cond-nlt (length room) (2 * length (live c p)) _ _ h)
 
   -- by the count n of the live blocks, and half of the room's words
-  pub listed-none : (n : ℕ) → n ≡ length (live c p) → length room / 2 < n → leaves (counted 7 0) room ≡ list c p room
+  pub listed-none : (n : ℕ) → n ≡ length (live c p) → length room / 2 < n → leaves (counted shortRoom 0) room ≡ list c p room
   listed-none n e h = list-short (omega arith)
 
   pub listed-all : (n m : ℕ) (after : List ℕ) → n ≡ length (live c p) → n ≤ length room / 2 → after ≡ sets room 0 (wordsFor (live c p)) → m ≡ n

@@ -5,8 +5,9 @@ use Prim.Native.Nat.{ℕ, _*_}
 use lib.Dec.{ltb}
 use lib.ListN.{length}
 use lib.Seq.{sets}
+use Rattle.refusals.specs.Refusals.{unless, shortRoom}
 use Rattle.records.specs.Pool.{Pool}
-use Rattle.records.specs.Calls.{admitOf, unless, Left, leaves}
+use Rattle.records.specs.Calls.{admitOf, Left, leaves}
 use Rattle.blocks.specs.Blocks.{Block, live}
 use Rattle.census.specs.declared.Counted.{Counted}
 
@@ -21,7 +22,7 @@ counted r n = record { refusal = r; count = n }
 -- the work of a census on records that are sound: refusal 7 where the room is shorter than two words a live block
 unfoldable pub list : ℕ → Pool → List ℕ → Left Counted (List ℕ)
 list c p room =
-    cond (ltb (length room) (2 * length (live c p))) (leaves (counted 7 0) room)
+    cond (ltb (length room) (2 * length (live c p))) (leaves (counted shortRoom 0) room)
     (leaves (counted 0 (length (live c p))) (sets room 0 (wordsFor (live c p))))
 
 -- the call

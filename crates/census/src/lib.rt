@@ -1,4 +1,5 @@
 // Census: place and size of each live block, written into a lent room.
+use refusals::SHORT_ROOM;
 ghost use mathlib.Core.Path.{_≡_};
 ghost use mathlib.Core.List.{[], _∷_};
 ghost use Prim.Native.Nat.{_+_, _*_, _<_, _≤_};
@@ -104,7 +105,7 @@ pub fn census_sound(c: u64, bits: &[u64], words: &[u32], slots: &[u64], room: &m
     let n = totals::live_count(c, bits, words, slots);
     if room.len() / 2 < n {
         return Counted {
-            refusal: 7,
+            refusal: SHORT_ROOM,
             count: 0,
         };
     }

@@ -1,4 +1,5 @@
 // Fresh records.
+use refusals::SHAPE;
 ghost use mathlib.Core.Path.{_≡_};
 ghost use Prim.Native.Nat.{_<_};
 ghost use lib.ListN.{length};
@@ -46,7 +47,7 @@ pub fn fresh(c: u64, bits: &mut [u64], words: &mut [u32], slots: &mut [u64]) -> 
     ensures { λ r. ⌜ leaves r (after bits words slots) ≡ freshOf c (before bits words slots) ⌝ }
 {
     if !records::is_shaped(c, bits.len(), words.len(), slots.len()) {
-        return 1;
+        return SHAPE;
     }
     fill64(bits, 8, 1);
     fill32(words, 512, records::edge_word());

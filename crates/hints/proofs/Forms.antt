@@ -18,7 +18,7 @@ use Rattle.blocks.specs.Stores.{putRun, putSlot}
 use Rattle.reserve.specs.declared.Reserved.{Reserved}
 use Rattle.reserve.specs.declared.Plan.{Plan}
 use Rattle.reserve.specs.declared.Plan.the-variants.{Refuse, InRun, NewRun, NewLarge}
-use Rattle.reserve.specs.Reserve.{freeSlot, plan, perform, answer, attempt}
+use Rattle.reserve.specs.Reserve.{lowestFree, plan, perform, answer, attempt}
 use Rattle.reserve.specs.Plans.{PlanOk}
 use Rattle.reserve.proofs.AnswerForms.{plan-good}
 use Rattle.release.specs.declared.Spot.{Spot}
@@ -42,7 +42,7 @@ pub note-is : (l : List ℕ) (b low g : ℕ) (v : Bool) {w : ℕ} {m : List ℕ}
 unfolding noted
 note-is l b low g v e f = f ∙ ap (λ (y : ℕ). putBit (digit v) (set l (3840 + b) y) (8192 * b + g)) e
 
-pub slot-is : (ss l : List ℕ) (g b : ℕ) {f n : ℕ} {m : List ℕ} → f ≡ freeSlot ss b g → n ≡ slots b → m ≡ noted l b g g (ltb f n)
+pub slot-is : (ss l : List ℕ) (g b : ℕ) {f n : ℕ} {m : List ℕ} → f ≡ lowestFree ss b g → n ≡ slots b → m ≡ noted l b g g (ltb f n)
     → m ≡ notedSlot ss l g b
 unfolding notedSlot
 slot-is ss l g b e h k = k ∙ ap₂ (λ (x y : ℕ). noted l b g g (ltb x y)) e h

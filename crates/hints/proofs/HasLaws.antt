@@ -22,7 +22,7 @@ use Rattle.records.proofs.FreshLaws.{fresh-edge, fresh-free}
 use Rattle.blocks.specs.Stores.{putSlot}
 use Rattle.blocks.proofs.StoreLaws.{slot-kinds, slot-other}
 use Rattle.blocks.proofs.FlipLaws.{RunFlip}
-use Rattle.reserve.specs.Reserve.{freeSlot, hasSlot}
+use Rattle.reserve.specs.Reserve.{lowestFree, hasSlot}
 use Rattle.reserve.proofs.PlanLaws.{has-free}
 use Rattle.reserve.proofs.MeanLaws.{found-run}
 
@@ -31,14 +31,14 @@ use Rattle.reserve.proofs.MeanLaws.{found-run}
 -- no run of class d starts at the page
 has-none : (p : Pool) (d i : ℕ) (k : Kind) → kindAt p i ≡ k → isRunOf d k ≡ false → hasSlot p d i ≡ false
 unfolding hasSlot
-has-none p d i k e f = ap (λ (t : Bool). t && ltb (freeSlot (p .slots) d i) (slots d)) (ap (isRunOf d) e ∙ f)
+has-none p d i k e f = ap (λ (t : Bool). t && ltb (lowestFree (p .slots) d i) (slots d)) (ap (isRunOf d) e ∙ f)
 
 has-too : (c : ℕ) (p q : Pool) (d i : ℕ) → i < 512 * c → kindAt p i ≡ kindAt q i → ((s : ℕ) → s < 512 → slotAt p i s ≡ slotAt q i s)
     → hasSlot p d i ≡ true → hasSlot q d i ≡ true
 has-too c p q d i l k s e =
     let f = has-free c p d i l e in
     let m = any-row d .slots-most in let h = f .slot in
-    found-run q d i (freeSlot (p .slots) d i) (sym k ∙ f .kind) h (sym (s (freeSlot (p .slots) d i) (omega arith)) ∙ f .clear)
+    found-run q d i (lowestFree (p .slots) d i) (sym k ∙ f .kind) h (sym (s (lowestFree (p .slots) d i) (omega arith)) ∙ f .clear)
 
 has-same : (c : ℕ) (p q : Pool) (d i : ℕ) → i < 512 * c → kindAt p i ≡ kindAt q i → ((s : ℕ) → s < 512 → slotAt p i s ≡ slotAt q i s)
     → hasSlot p d i ≡ hasSlot q d i

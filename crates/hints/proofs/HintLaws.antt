@@ -30,7 +30,7 @@ use Rattle.blocks.proofs.KeepLaws.{admit-good, take-large, free-large, take-cla
 use Rattle.reserve.specs.declared.Reserved.{Reserved}
 use Rattle.reserve.specs.declared.Plan.{Plan}
 use Rattle.reserve.specs.declared.Plan.the-variants.{Refuse, InRun, NewRun, NewLarge}
-use Rattle.reserve.specs.Reserve.{freeSlot, hasSlot, slotPage, ifFound, slotOrRun, planSlot, planRun, pagesFor, planLarge, plan, perform, slotGiven}
+use Rattle.reserve.specs.Reserve.{lowestFree, hasSlot, slotPage, ifFound, slotOrRun, planSlot, planRun, pagesFor, planLarge, plan, perform, slotGiven}
 use Rattle.reserve.specs.Plans.{SlotFree, PlanOk}
 use Rattle.reserve.proofs.PlanLaws.{free-first, searched, slot-ok, plan-in}
 use Rattle.reserve.proofs.StoreForms.{in-run-is}
@@ -80,9 +80,9 @@ module _ (c : ℕ) (p : Pool) where
   plan-first n = le-cases (PlanFirst c p) n 3072 (λ h. slot-first (classFor n)) (λ h. large-first n)
 
 -- whether the run of class b at page g has a free slot, by its kind
-has-by : (p : Pool) (b g : ℕ) → kindAt p g ≡ Class b → ltb (freeSlot (p .slots) b g) (slots b) ≡ hasSlot p b g
+has-by : (p : Pool) (b g : ℕ) → kindAt p g ≡ Class b → ltb (lowestFree (p .slots) b g) (slots b) ≡ hasSlot p b g
 unfolding hasSlot
-has-by p b g e = sym (ap (λ (t : Bool). t && ltb (freeSlot (p .slots) b g) (slots b)) (ap (isRunOf b) e ∙ eq-eqb b b refl))
+has-by p b g e = sym (ap (λ (t : Bool). t && ltb (lowestFree (p .slots) b g) (slots b)) (ap (isRunOf b) e ∙ eq-eqb b b refl))
 
 module _ (c : ℕ) (p : Pool) (ok : admitOf c p ≡ 0) (l : List ℕ) (h : Hints c p l) where
   shape : Shape c p
@@ -96,7 +96,7 @@ module _ (c : ℕ) (p : Pool) (ok : admitOf c p ≡ 0) (l : List ℕ) (h : Hints
       let q : Pool = putSlot 1 p g s in
       let few = shape .few in let m = any-row b .slots-most in let t = k .slot in let i = k .inside in
       let others = slot-has c 1 p g b s (omega arith) shape i (omega arith) (k .kind) in
-      kept h few b g g (class-at-low p g b (k .kind)) i (omega arith) others (ltb (freeSlot (q .slots) b g) (slots b))
+      kept h few b g g (class-at-low p g b (k .kind)) i (omega arith) others (ltb (lowestFree (q .slots) b g) (slots b))
       (has-by q b g (slot-kinds c 1 p g s g ∙ k .kind))
       (λ j x y. by-cases (ℕ-discrete j g) (λ e. omega arith) (λ e. first j x (others b j x (λ _. e) ∙ y)))
 
@@ -113,7 +113,7 @@ module _ (c : ℕ) (p : Pool) (ok : admitOf c p ≡ 0) (l : List ℕ) (h : Hints
       let others : (d j : ℕ) → j < 512 * c → (b ≡ d → j ≢ g) → hasSlot p d j ≡ hasSlot r d j =
       λ d j x y. run-has f d j x (λ e. other-class b d (λ z. y z e))
       ∙ slot-has c 1 q g b 0 (omega arith) sq (omega arith) (omega arith) (f .first) d j x y in
-      kept h few b g g bl (omega arith) (omega arith) others (ltb (freeSlot (r .slots) b g) (slots b))
+      kept h few b g g bl (omega arith) (omega arith) others (ltb (lowestFree (r .slots) b g) (slots b))
       (has-by r b g (slot-kinds c 1 q g 0 g ∙ f .first))
       (λ j x y. by-cases (ℕ-discrete j g) (λ e. omega arith) (λ e. absurd (false≢true (sym (first j x) ∙ others b j x (λ _. e) ∙ y))))
 
@@ -142,7 +142,7 @@ module _ (c : ℕ) (p : Pool) (ok : admitOf c p ≡ 0) (l : List ℕ) (h : Hints
 
   -- the lowest free slot of the first run of class b that has one
   module _ (b g s n : ℕ) (bl : b < 30) (k : n ≡ slots b) (at : g ≡ slotPage p b 0 (512 * c)) (gl : g < 512 * c)
-      (e : s ≡ freeSlot (p .slots) b g) where
+      (e : s ≡ lowestFree (p .slots) b g) where
     planned : InRun g b s ≡ planSlot c p b
     planned = plan-in c p b g s at gl e
 
@@ -154,8 +154,8 @@ module _ (c : ℕ) (p : Pool) (ok : admitOf c p ≡ 0) (l : List ℕ) (h : Hints
 
     -- behind it, the search for another one goes on
     more : (r : ℕ) (ss : List ℕ) → ss ≡ putBit 1 (p .slots) (512 * g + s) → r ≡ nextBit 0 ss (512 * g + s) (512 * g + n - (512 * g + s))
-        → ltb r (512 * g + n) ≡ ltb (freeSlot ss b g) (slots b)
-    unfolding freeSlot
+        → ltb r (512 * g + n) ≡ ltb (lowestFree ss b g) (slots b)
+    unfolding lowestFree
     more r ss f h =
         let (sl, nl) = slot-room in let few = shape in
         let w = first-at ss (512 * g + s) (512 * g + n) 0 r (omega arith) (omega arith) h in

@@ -12,7 +12,7 @@ use Rattle.records.specs.Calls.{Left, leaves, freshPool}
 use Rattle.reserve.specs.declared.Reserved.{Reserved}
 use Rattle.reserve.specs.declared.Plan.{Plan}
 use Rattle.reserve.specs.declared.Plan.the-variants.{Refuse, InRun, NewRun, NewLarge}
-use Rattle.reserve.specs.Reserve.{freeSlot, hasSlot, plan, perform, answer}
+use Rattle.reserve.specs.Reserve.{lowestFree, hasSlot, plan, perform, answer}
 use Rattle.release.specs.declared.Spot.{Spot}
 use Rattle.release.specs.declared.Spot.the-variants.{Nowhere, Run, Slot}
 
@@ -58,7 +58,7 @@ noted l b low g v = putBit (digit v) (set l (3840 + b) low) (8192 * b + g)
 
 -- a slot of the run of class b at page g was taken: it was the lowest free one
 unfoldable pub notedSlot : List ℕ → List ℕ → ℕ → ℕ → List ℕ
-notedSlot ss l g b = noted l b g g (ltb (freeSlot ss b g) (slots b))
+notedSlot ss l g b = noted l b g g (ltb (lowestFree ss b g) (slots b))
 
 -- a plan was performed, which left the slot bits ss
 abbrev pub notedPlan : List ℕ → List ℕ → Plan → List ℕ

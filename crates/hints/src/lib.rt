@@ -1,5 +1,6 @@
 // Reserve and release for a caller that owns sound records and makes many calls: a row of hints is kept beside the records, so that a
 // free slot is found without a walk over the pages, and a class's numbers without its constants.
+use refusals::NO_BLOCK;
 ghost use mathlib.Core.Path.{_≡_};
 ghost use Prim.Native.Nat.{_+_, _*_, _<_, _≤_};
 ghost use lib.ListN.{length};
@@ -67,7 +68,7 @@ fn note_slot(slots: &[u64], hints: &mut [u64], g: usize, b: usize) -> u64
 {
     let bytes = hints[3870 + b];
     let n = hints[3900 + b] as usize;
-    let v = reserve::free_slot(slots, g, b, n) < n;
+    let v = reserve::lowest_free(slots, g, b, n) < n;
     note(hints, b, g, g, v);
     bytes
 }
@@ -107,7 +108,7 @@ fn take_slot(
     requires { ⌜ (admitOf c (lent bits words slots) ≡ 0) × (Hints c (lent bits words slots) (now hints)) × (b < 30) × (n ≡ slotsOf (Class b)) × (g ≡ slotPage (lent bits words slots) b 0 (512 * c)) × (g < 512 * c) ⌝ }
     ensures { λ r. ⌜ (leaves r (after bits words slots) ≡ carried (before bits words slots) (planSlot c (before bits words slots) b)) × (Hints c (after bits words slots) (now (hints .exit))) ⌝ }
 {
-    let s = reserve::free_slot(slots, g, b, n);
+    let s = reserve::lowest_free(slots, g, b, n);
     let i = 512 * g + s;
     bitrow::put_bit(slots, i, true);
     let end = 512 * g + n;
@@ -174,7 +175,7 @@ fn spot_hinted(
 {
     match release::area_at(c, bits, words, slots, q) {
         release::Area::Bare => {
-            return release::Spot::Nowhere(5);
+            return release::Spot::Nowhere(NO_BLOCK);
         }
         release::Area::Large(g, n) => {
             return release::Spot::Run(g, n);

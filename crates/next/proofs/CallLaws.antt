@@ -2,6 +2,7 @@
 use mathlib.Core.Path.{_≡_, sym, ap, ap₂, _∙_, subst}
 use mathlib.Core.Logic.{_≢_}
 use Prim.Native.Nat.{ℕ, suc, _+_, _-_, _/_, _<_}
+use Rattle.refusals.proofs.CallLaws.{refused, served}
 use Rattle.classes.specs.declared.Row.{Row}
 use Rattle.classes.specs.Classes.{rowAt, size, slots}
 use Rattle.classes.proofs.ClassLaws.{size-read, slots-read, cut-some}
@@ -10,7 +11,6 @@ use Rattle.records.specs.declared.Kind.the-variants.{Edge, Free, Damaged, Large
 use Rattle.records.specs.Pool.{Pool, kindAt}
 use Rattle.records.specs.Calls.{admitOf}
 use Rattle.records.proofs.KindLaws.{Bare}
-use Rattle.records.proofs.AdmitLaws.{refused, served}
 use Rattle.blocks.specs.Blocks.{live}
 use Rattle.next.specs.declared.Found.{Found}
 use Rattle.next.specs.Next.{firstFrom, answered, told, nextOf}

@@ -3,8 +3,9 @@ use mathlib.Core.Bool.{cond}
 use mathlib.Core.List.{List, [], _∷_}
 use Prim.Native.Nat.{ℕ}
 use lib.Dec.{leb}
+use Rattle.refusals.specs.Refusals.{unless}
 use Rattle.records.specs.Pool.{Pool}
-use Rattle.records.specs.Calls.{admitOf, unless}
+use Rattle.records.specs.Calls.{admitOf}
 use Rattle.blocks.specs.Blocks.{Block, live}
 use Rattle.next.specs.declared.Found.{Found}
 use Rattle.next.specs.declared.Found.the-variants.{At, Nothing}

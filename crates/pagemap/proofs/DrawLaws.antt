@@ -7,13 +7,14 @@ use Prim.Native.Nat.{ℕ, suc, _+_, _-_, _*_, _≤_, _<_}
 use native.Mathlib.Nat.{mul-suc}
 use native.Mathlib.Omega.{arith}
 use lib.ListN.{length}
+use Rattle.refusals.specs.Refusals.{shortRoom}
+use Rattle.refusals.proofs.CallLaws.{refused, served}
 use Rattle.text.specs.Text.{Appends}
 use Rattle.text.proofs.TextLaws.{appends-none, appends-more, appends-length}
 use Rattle.totals.specs.declared.Sums.{Sums}
 use Rattle.totals.specs.Totals.{tallied}
 use Rattle.records.specs.Calls.{admitOf, Left, leaves}
 use Rattle.records.proofs.Flags.{cond-lt, cond-nlt}
-use Rattle.records.proofs.AdmitLaws.{refused, served}
 use Rattle.records.specs.Pool.{Pool}
 use Rattle.cells.specs.declared.Cell.{Cell}
 use Rattle.cells.specs.Cells.{noCell, cellAt}
@@ -111,14 +112,14 @@ module _ (v : Bool) (c : ℕ) (p : Pool) (out : List ℕ) {n : ℕ} (e : n ≡ a
   draw-refused z = refused (admitOf c p) n (λ r. leaves (drawnAs r 0) out) _ e z
 
   module _ (z : n ≡ 0) where
-    pub draw-short : length out < roomFor v c → leaves (drawnAs 7 0) out ≡ drawnOf v c p out
+    pub draw-short : length out < roomFor v c → leaves (drawnAs shortRoom 0) out ≡ drawnOf v c p out
     unfolding drawnOf
     draw-short h =
-        sym (cond-lt (length out) (roomFor v c) (leaves (drawnAs 7 0) out) (showing v c p out) h)
+        sym (cond-lt (length out) (roomFor v c) (leaves (drawnAs shortRoom 0) out) (showing v c p out) h)
         ∙ served (admitOf c p) n (λ r. leaves (drawnAs r 0) out) _ e z
 
     pub draw-whole : roomFor v c ≤ length out → {s : Left Drawn (List ℕ)} → s ≡ showing v c p out → s ≡ drawnOf v c p out
     unfolding drawnOf
     draw-whole h k =
-        k ∙ sym (cond-nlt (length out) (roomFor v c) (leaves (drawnAs 7 0) out) (showing v c p out) h)
+        k ∙ sym (cond-nlt (length out) (roomFor v c) (leaves (drawnAs shortRoom 0) out) (showing v c p out) h)
         ∙ served (admitOf c p) n (λ r. leaves (drawnAs r 0) out) _ e z

@@ -5,9 +5,10 @@ use Prim.Native.Nat.{ℕ, zero, suc, _+_, _-_, _*_, _/_, _%_}
 use lib.Dec.{eqb, ltb}
 use lib.ListN.{length}
 use lib.Seq.{sets}
+use Rattle.refusals.specs.Refusals.{unless, shortRoom}
 use Rattle.bitrow.specs.Row.{digit}
 use Rattle.records.specs.Pool.{Pool}
-use Rattle.records.specs.Calls.{admitOf, unless, Left, leaves}
+use Rattle.records.specs.Calls.{admitOf, Left, leaves}
 use Rattle.totals.specs.declared.Sums.{Sums}
 use Rattle.totals.specs.Totals.{tallied}
 use Rattle.text.specs.Ascii.{ascii}
@@ -132,4 +133,4 @@ showing v c p out = leaves (drawnAs 0 (length (drawing v c p))) (sets out 0 (dra
 unfoldable pub drawnOf : Bool → ℕ → Pool → List ℕ → Left Drawn (List ℕ)
 drawnOf v c p out =
     unless (admitOf c p) (λ r. leaves (drawnAs r 0) out)
-    (cond (ltb (length out) (roomFor v c)) (leaves (drawnAs 7 0) out) (showing v c p out))
+    (cond (ltb (length out) (roomFor v c)) (leaves (drawnAs shortRoom 0) out) (showing v c p out))

@@ -1,4 +1,5 @@
 // Drawings of a pool: what each page is and how full its runs are, as text or as an SVG picture.
+use refusals::SHORT_ROOM;
 use text::put_filled;
 ghost use mathlib.Core.Path.{_≡_};
 ghost use mathlib.Core.Bool.{true, false};
@@ -217,7 +218,7 @@ fn draw(svg: bool, c: u64, bits: &[u64], words: &[u32], slots: &[u64], out: &mut
     }
     if out.len() < room_for(svg, c) {
         return Drawn {
-            refusal: 7,
+            refusal: SHORT_ROOM,
             length: 0,
         };
     }

@@ -1,15 +1,14 @@
 -- What the check's answer tells a call: refusals 1 and 2, and the pool that it admits. Assumes nothing.
 use mathlib.Core.Path.{_≡_, refl, sym, ap, _∙_}
-use mathlib.Core.Logic.{_≢_}
 use mathlib.Core.Bool.{Bool, true, false, cond}
-use Prim.Native.Nat.{ℕ, zero, suc, _*_, _≤_}
+use Prim.Native.Nat.{ℕ, _*_, _≤_}
 use native.Mathlib.Omega.{arith}
 use lib.Dec.{eqb, leb}
 use lib.ListN.{length}
 use borrow.Author.Tests.{leb-true, eqb-true, le-leb, eq-eqb}
 use Rattle.records.specs.Pool.{Pool}
 use Rattle.records.specs.Sound.{sound}
-use Rattle.records.specs.Calls.{shaped, fit, admitOf, unless}
+use Rattle.records.specs.Calls.{shaped, fit, admitOf}
 use Rattle.records.proofs.Flags.{and-made, and-left, and-right}
 
 -- the shape of a pool of c chunks
@@ -77,16 +76,3 @@ module _ (c : ℕ) (p : Pool) where
       go true true e f z = record { shape = shaped-lengths c (length (p .bits)) (length (p .words)) (length (p .slots)) e; whole = f }
       go true false e f z = absurd (omega arith)
       go false u e f z = absurd (omega arith)
-
--- ---- a call behind the check, whose answer is n
-
-module _ {A : Type 0} (m n : ℕ) (refuse : ℕ → A) (work : A) where
-  pub refused : n ≡ m → n ≢ 0 → refuse n ≡ unless m refuse work
-  refused e z = go m e
-    where
-      go : (k : ℕ) → n ≡ k → refuse n ≡ unless k refuse work
-      go zero f = absurd (z f)
-      go (suc k) f = ap refuse f
-
-  pub served : n ≡ m → n ≡ 0 → work ≡ unless m refuse work
-  served e z = ap (λ (k : ℕ). unless k refuse work) (sym z ∙ e)

@@ -5,6 +5,7 @@ use mathlib.Core.List.{List, [], _∷_, _++_}
 use Prim.Native.Nat.{ℕ, zero, suc, _*_}
 use lib.Dec.{eqb, leb}
 use lib.ListN.{length}
+use Rattle.refusals.specs.Refusals.{shape, damaged, Check, firstOf}
 use Rattle.records.specs.Kinds.{edgeWord, zeros}
 use Rattle.records.specs.Pool.{Pool, pool}
 use Rattle.records.specs.Sound.{sound}
@@ -17,14 +18,13 @@ shaped c nbits nwords nslots =
 abbrev pub fit : ℕ → Pool → Bool
 fit c p = shaped c (length (p .bits)) (length (p .words)) (length (p .slots))
 
--- refusal 1, else 2, else 0: what each call on an existing pool checks first
-unfoldable pub admitOf : ℕ → Pool → ℕ
-admitOf c p = cond (fit c p) (cond (sound c p) 0 2) 1
+-- what each call on an existing pool checks first, in this order
+abbrev pub checks : ℕ → Pool → List Check
+checks c p = (fit c p, shape) ∷ (sound c p, damaged) ∷ []
 
--- the work of a call, unless it is refused
-abbrev pub unless : {A : Type 0} → ℕ → (ℕ → A) → A → A
-unless zero refuse work = work
-unless (suc n) refuse work = refuse (suc n)
+-- the refusal that it gives, else 0
+unfoldable pub admitOf : ℕ → Pool → ℕ
+admitOf c p = firstOf (checks c p)
 
 -- what a call answers, and what it was lent as it leaves it
 pub record Left (A S : Type 0) : Type 0 where
@@ -43,6 +43,6 @@ repeat (suc c) l = l ++ repeat c l
 unfoldable pub freshPool : ℕ → Pool
 freshPool c = pool (repeat c (1 ∷ zeros 7)) (repeat c (edgeWord ∷ zeros 511)) (zeros (4096 * c))
 
--- fresh: refusal 1 or 0
+-- the call: it checks only the shape
 unfoldable pub freshOf : ℕ → Pool → Left ℕ Pool
-freshOf c p = cond (fit c p) (leaves 0 (freshPool c)) (leaves 1 p)
+freshOf c p = cond (fit c p) (leaves 0 (freshPool c)) (leaves shape p)

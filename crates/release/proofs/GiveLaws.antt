@@ -9,6 +9,8 @@ use native.Mathlib.Nat.{le-refl, div-add-mod'}
 use native.Mathlib.Omega.{arith}
 use lib.ListN.{length, getD, set}
 use lib.Seq.{sets}
+use Rattle.refusals.specs.Refusals.{freeSlot}
+use Rattle.refusals.proofs.CallLaws.{refused, served}
 use Rattle.bitrow.specs.Row.{isSet, putBit, putBits}
 use Rattle.classes.specs.Classes.{size, slots}
 use Rattle.records.specs.declared.Kind.{Kind}
@@ -22,7 +24,6 @@ use Rattle.records.proofs.Flags.{eq-cases, lt-cases}
 use Rattle.records.proofs.KindLaws.{length-zeros, getD-zeros}
 use Rattle.records.proofs.WalkLaws.{sound-walks}
 use Rattle.records.proofs.RunLaws.{walk-run}
-use Rattle.records.proofs.AdmitLaws.{refused, served}
 use Rattle.classes.proofs.ClassLaws.{any-row}
 use Rattle.records.proofs.WordLaws.{page-word}
 use Rattle.blocks.specs.Stores.{putRun, putSlot}
@@ -69,7 +70,7 @@ module _ (c : ℕ) (p : Pool) (q g : ℕ) (l : g < 512 * c) (low : 4096 * g ≤ 
     where
       go : (v : Bool) → isSet (p .slots) (512 * g + (q - 4096 * g) / size b) ≡ v → (q - 4096 * g) / size b < slots b
           → q ≡ 4096 * g + (q - 4096 * g) / size b * size b
-          → There c p q (cond v (Slot g b ((q - 4096 * g) / size b)) (Nowhere 6))
+          → There c p q (cond v (Slot g b ((q - 4096 * g) / size b)) (Nowhere freeSlot))
       go true f h r = record { inside = l; kind = e; slot = h; taken = f; place = r }
       go false f h r = omega arith
 

@@ -5,6 +5,7 @@ use Prim.Native.Nat.{ℕ, zero, suc, _+_, _-_, _*_, _/_, _%_, _≤_, _<_}
 use native.Mathlib.Nat.{mul-le-mul-right, mul-mod-left, mul-div-left}
 use native.Mathlib.Omega.{arith}
 use lib.Dec.{ltb}
+use Rattle.refusals.specs.Refusals.{unless, noBlock, freeSlot}
 use Rattle.bitrow.specs.Row.{isSet}
 use Rattle.classes.specs.Classes.{size, slots}
 use Rattle.classes.proofs.ClassLaws.{any-row}
@@ -12,7 +13,7 @@ use Rattle.records.specs.declared.Kind.{Kind}
 use Rattle.records.specs.declared.Kind.the-variants.{Large, Class}
 use Rattle.records.specs.Kinds.{zeros, behind}
 use Rattle.records.specs.Pool.{Pool, kindAt, slotAt}
-use Rattle.records.specs.Calls.{admitOf, unless, Left}
+use Rattle.records.specs.Calls.{admitOf, Left}
 use Rattle.records.specs.Runs.{spanOf, InRun}
 use Rattle.records.proofs.Flags.{cond-eq, cond-lt}
 use Rattle.blocks.specs.Blocks.{Block, slotBlock, runBlock}
@@ -92,9 +93,9 @@ module _ (c : ℕ) (p : Pool) (h : Good c p) (g : ℕ) (l : g < 512 * c) where
 
   run-found : (k : ℕ) → kindAt p g ≡ Large k → spot c p (4096 * g) ≡ Run g (suc k)
   run-found k e =
-      found-in (4096 * g) (Large k) e (omega arith) (omega arith) ∙ cond-eq (4096 * g - 4096 * g) 0 (Run g (suc k)) (Nowhere 5) (omega arith)
+      found-in (4096 * g) (Large k) e (omega arith) (omega arith) ∙ cond-eq (4096 * g - 4096 * g) 0 (Run g (suc k)) (Nowhere noBlock) (omega arith)
 
-  slot-found : (b s : ℕ) → kindAt p g ≡ Class b → s < slots b → spot c p (4096 * g + s * size b) ≡ cond (slotAt p g s) (Slot g b s) (Nowhere 6)
+  slot-found : (b s : ℕ) → kindAt p g ≡ Class b → s < slots b → spot c p (4096 * g + s * size b) ≡ cond (slotAt p g s) (Slot g b s) (Nowhere freeSlot)
   unfolding slotSpot slotAt behind
   slot-found b s e t =
       let f = any-row b in
@@ -106,7 +107,7 @@ module _ (c : ℕ) (p : Pool) (h : Good c p) (g : ℕ) (l : g < 512 * c) where
       let number : s * size b / size b ≡ s = mul-div-left s z in
       found-in (4096 * g + s * size b) (Class b) e (omega arith) (omega arith) ∙ ap (slotSpot (p .slots) g b) off
       ∙ cond-eq (s * size b % size b) 0 _ _ rest
-      ∙ ap (λ (n : ℕ). cond (ltb n (slots b)) (cond (isSet (p .slots) (512 * g + n)) (Slot g b n) (Nowhere 6)) (Nowhere 5)) number
+      ∙ ap (λ (n : ℕ). cond (ltb n (slots b)) (cond (isSet (p .slots) (512 * g + n)) (Slot g b n) (Nowhere freeSlot)) (Nowhere noBlock)) number
       ∙ cond-lt s (slots b) _ _ t
 
 pub release-means : ReleaseMeans

@@ -8,6 +8,7 @@ use Prim.Native.Nat.{ℕ, zero, suc, _+_, _-_, _*_, _/_, _%_, _≤_, _<_}
 use native.Mathlib.Omega.{arith}
 use lib.Dec.{ltb}
 use lib.ListN.{length, getD}
+use Rattle.refusals.specs.Refusals.{noBlock, freeSlot}
 use Rattle.bitrow.specs.Row.{isSet}
 use Rattle.classes.specs.Classes.{size, slots}
 use Rattle.classes.proofs.ClassLaws.{Cut}
@@ -88,7 +89,7 @@ module _ (c : ℕ) (p : Pool) (s : sound c p ≡ true) where
 
 -- ---- the ways out
 
-pub spot-outside : (c : ℕ) (p : Pool) (q : ℕ) → 512 * c ≤ q / 4096 → Nowhere 5 ≡ spot c p q
+pub spot-outside : (c : ℕ) (p : Pool) (q : ℕ) → 512 * c ≤ q / 4096 → Nowhere noBlock ≡ spot c p q
 unfolding spot
 spot-outside c p q h = sym (cond-nlt (q / 4096) (512 * c) _ _ h)
 
@@ -100,7 +101,7 @@ module _ (c : ℕ) (p : Pool) (ok : admitOf c p ≡ 0) (q : ℕ) (l : q / 4096 <
   spot-in : (f : ℕ) (k : Kind) → firstPage p (q / 4096) ≡ f → kindAt p f ≡ k → spotIn p f (q - 4096 * f) k ≡ spot c p q
   unfolding spot
   spot-in f k e h =
-      sym (cond-lt (q / 4096) (512 * c) (spotFrom p q (firstPage p (q / 4096))) (Nowhere 5) l ∙ ap (spotFrom p q) e
+      sym (cond-lt (q / 4096) (512 * c) (spotFrom p q (firstPage p (q / 4096))) (Nowhere noBlock) l ∙ ap (spotFrom p q) e
       ∙ ap (spotIn p f (q - 4096 * f)) h)
 
   -- page f tells what the place lies in
@@ -124,25 +125,25 @@ module _ (c : ℕ) (p : Pool) (ok : admitOf c p ≡ 0) (q : ℕ) (l : q / 4096 <
         let s = r .by in
         ap (Run f) e ∙ sym (cond-eq (q - 4096 * f) 0 _ _ (omega arith)) ∙ spot-self (Large k) s (r .is) refl
 
-    pub lies-behind : (k : ℕ) → Lies p (q / 4096) f (Large k) → q % 4096 ≢ 0 → Nowhere 5 ≡ spot c p q
+    pub lies-behind : (k : ℕ) → Lies p (q / 4096) f (Large k) → q % 4096 ≢ 0 → Nowhere noBlock ≡ spot c p q
     lies-behind k r z = let s = r .by in sym (cond-ne (q - 4096 * f) 0 _ _ (omega arith)) ∙ spot-self (Large k) s (r .is) refl
 
     -- a page inside a large run
-    lies-inside : f ≡ q / 4096 → kindAt p f ≡ Inner 0 → Nowhere 5 ≡ spot c p q
+    lies-inside : f ≡ q / 4096 → kindAt p f ≡ Inner 0 → Nowhere noBlock ≡ spot c p q
     lies-inside e x =
         ⊎-elim (λ y. absurd (omega (arith, y .0))) (λ y. inside y)
         (walk-home (kindAt p) (512 * c) [] 0 (q / 4096) 0 (sound-walks c p whole .walks) (omega arith) (omega arith) (ap (kindAt p) (sym e) ∙ x))
       where
-        inside : Home (kindAt p) 0 (q / 4096) 0 → Nowhere 5 ≡ spot c p q
+        inside : Home (kindAt p) 0 (q / 4096) 0 → Nowhere noBlock ≡ spot c p q
         inside h =
             let (n, e, u) = large-home c p whole (q / 4096) h (kindAt p (h .first)) refl (h .begins) in
             let b = h .below in
             let span : spanOf (kindAt p (h .first)) ≡ suc n = ap spanOf e in
             let r : InRun p (h .first) (q / 4096) = record { low = omega arith; high = omega arith } in
-            sym (cond-ne (q - 4096 * h .first) 0 (Run (h .first) (suc n)) (Nowhere 5) (omega arith))
+            sym (cond-ne (q - 4096 * h .first) 0 (Run (h .first) (suc n)) (Nowhere noBlock) (omega arith))
             ∙ spot-in (h .first) (Large n) (in-run c p whole (h .first) (q / 4096) (omega arith) r) e
 
-    pub lies-bare : (k : Kind) → Bare k → Lies p (q / 4096) f k → Nowhere 5 ≡ spot c p q
+    pub lies-bare : (k : Kind) → Bare k → Lies p (q / 4096) f k → Nowhere noBlock ≡ spot c p q
     lies-bare Edge h r = spot-self Edge (r .by) (r .is) refl
     lies-bare Free h r = spot-self Free (r .by) (r .is) refl
     lies-bare Damaged h r = spot-self Damaged (r .by) (r .is) refl
@@ -153,23 +154,23 @@ module _ (c : ℕ) (p : Pool) (ok : admitOf c p ≡ 0) (q : ℕ) (l : q / 4096 <
 -- ---- a slot
 
 module _ (ss : List ℕ) (g b off : ℕ) {z n : ℕ} (k : Cut b z n) where
-  pub slot-between : off % z ≢ 0 → Nowhere 5 ≡ slotSpot ss g b off
+  pub slot-between : off % z ≢ 0 → Nowhere noBlock ≡ slotSpot ss g b off
   unfolding slotSpot
   slot-between h = sym (cond-ne (off % size b) 0 _ _ (subst (λ (x : ℕ). off % x ≢ 0) (k .size-is) h))
 
   slot-number : off % z ≡ 0
-      → slotSpot ss g b off ≡ cond (ltb (off / z) n) (cond (isSet ss (512 * g + off / z)) (Slot g b (off / z)) (Nowhere 6)) (Nowhere 5)
+      → slotSpot ss g b off ≡ cond (ltb (off / z) n) (cond (isSet ss (512 * g + off / z)) (Slot g b (off / z)) (Nowhere freeSlot)) (Nowhere noBlock)
   unfolding slotSpot
   slot-number h =
       cond-eq (off % size b) 0 _ _ (subst (λ (x : ℕ). off % x ≡ 0) (k .size-is) h)
-      ∙ ap₂ (λ (x y : ℕ). cond (ltb (off / x) y) (cond (isSet ss (512 * g + off / x)) (Slot g b (off / x)) (Nowhere 6)) (Nowhere 5))
+      ∙ ap₂ (λ (x y : ℕ). cond (ltb (off / x) y) (cond (isSet ss (512 * g + off / x)) (Slot g b (off / x)) (Nowhere freeSlot)) (Nowhere noBlock))
       (sym (k .size-is)) (sym (k .slots-is))
 
-  pub slot-behind : off % z ≡ 0 → n ≤ off / z → Nowhere 5 ≡ slotSpot ss g b off
+  pub slot-behind : off % z ≡ 0 → n ≤ off / z → Nowhere noBlock ≡ slotSpot ss g b off
   slot-behind h l = sym (slot-number h ∙ cond-nlt (off / z) n _ _ l)
 
   pub slot-taken : off % z ≡ 0 → off / z < n → isSet ss (512 * g + off / z) ≡ true → Slot g b (off / z) ≡ slotSpot ss g b off
-  slot-taken h l e = sym (slot-number h ∙ cond-lt (off / z) n _ _ l ∙ ap (λ (t : Bool). cond t (Slot g b (off / z)) (Nowhere 6)) e)
+  slot-taken h l e = sym (slot-number h ∙ cond-lt (off / z) n _ _ l ∙ ap (λ (t : Bool). cond t (Slot g b (off / z)) (Nowhere freeSlot)) e)
 
-  pub slot-free : off % z ≡ 0 → off / z < n → isSet ss (512 * g + off / z) ≡ false → Nowhere 6 ≡ slotSpot ss g b off
-  slot-free h l e = sym (slot-number h ∙ cond-lt (off / z) n _ _ l ∙ ap (λ (t : Bool). cond t (Slot g b (off / z)) (Nowhere 6)) e)
+  pub slot-free : off % z ≡ 0 → off / z < n → isSet ss (512 * g + off / z) ≡ false → Nowhere freeSlot ≡ slotSpot ss g b off
+  slot-free h l e = sym (slot-number h ∙ cond-lt (off / z) n _ _ l ∙ ap (λ (t : Bool). cond t (Slot g b (off / z)) (Nowhere freeSlot)) e)

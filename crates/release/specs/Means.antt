@@ -2,6 +2,7 @@
 use mathlib.Core.Path.{_≡_}
 use mathlib.Core.Bool.{cond}
 use Prim.Native.Nat.{ℕ, suc, _+_, _*_, _<_}
+use Rattle.refusals.specs.Refusals.{freeSlot}
 use Rattle.classes.specs.Classes.{size, slots}
 use Rattle.records.specs.declared.Kind.the-variants.{Large, Class}
 use Rattle.records.specs.Pool.{Pool, kindAt, slotAt}
@@ -20,4 +21,4 @@ pub record ReleaseMeans : Type 0 where
   pub run : (c : ℕ) (p : Pool) → Good c p → (g k : ℕ) → g < 512 * c → kindAt p g ≡ Large k → spot c p (4096 * g) ≡ Run g (suc k)
   -- and each slot at its own, whatever page of its run that lies in: taken, or refused 6
   pub slot : (c : ℕ) (p : Pool) → Good c p → (g b s : ℕ) → g < 512 * c → kindAt p g ≡ Class b → s < slots b
-      → spot c p (4096 * g + s * size b) ≡ cond (slotAt p g s) (Slot g b s) (Nowhere 6)
+      → spot c p (4096 * g + s * size b) ≡ cond (slotAt p g s) (Slot g b s) (Nowhere freeSlot)

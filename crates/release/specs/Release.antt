@@ -3,13 +3,14 @@ use mathlib.Core.Bool.{Bool, true, false, cond}
 use mathlib.Core.List.{List}
 use Prim.Native.Nat.{ℕ, zero, suc, _+_, _-_, _*_, _/_, _%_}
 use lib.Dec.{eqb, ltb}
+use Rattle.refusals.specs.Refusals.{unless, noBlock, freeSlot}
 use Rattle.bitrow.specs.Row.{isSet}
 use Rattle.classes.specs.Classes.{size, slots}
 use Rattle.records.specs.declared.Kind.{Kind}
 use Rattle.records.specs.declared.Kind.the-variants.{Edge, Free, Damaged, Large, Class, Inner}
 use Rattle.records.specs.Kinds.{zeros}
 use Rattle.records.specs.Pool.{Pool, kindAt}
-use Rattle.records.specs.Calls.{admitOf, unless, Left, leaves}
+use Rattle.records.specs.Calls.{admitOf, Left, leaves}
 use Rattle.blocks.specs.Stores.{putRun, putSlot}
 use Rattle.release.specs.declared.Spot.{Spot}
 use Rattle.release.specs.declared.Spot.the-variants.{Nowhere, Run, Slot}
@@ -36,24 +37,24 @@ firstPage p (suc g) = let lower = firstPage p g in cond (isInner (kindAt p (suc 
 unfoldable pub slotSpot : List ℕ → ℕ → ℕ → ℕ → Spot
 slotSpot bits g b off =
     cond (eqb (off % size b) 0)
-    (cond (ltb (off / size b) (slots b)) (cond (isSet bits (512 * g + off / size b)) (Slot g b (off / size b)) (Nowhere 6)) (Nowhere 5))
-    (Nowhere 5)
+    (cond (ltb (off / size b) (slots b)) (cond (isSet bits (512 * g + off / size b)) (Slot g b (off / size b)) (Nowhere freeSlot)) (Nowhere noBlock))
+    (Nowhere noBlock)
 
 -- byte `off` of what starts at page g, by the page's kind
 abbrev pub spotIn : Pool → ℕ → ℕ → Kind → Spot
-spotIn p g off Edge = Nowhere 5
-spotIn p g off Free = Nowhere 5
-spotIn p g off Damaged = Nowhere 5
-spotIn p g off (Large k) = cond (eqb off 0) (Run g (suc k)) (Nowhere 5)
+spotIn p g off Edge = Nowhere noBlock
+spotIn p g off Free = Nowhere noBlock
+spotIn p g off Damaged = Nowhere noBlock
+spotIn p g off (Large k) = cond (eqb off 0) (Run g (suc k)) (Nowhere noBlock)
 spotIn p g off (Class b) = slotSpot (p .slots) g b off
-spotIn p g off (Inner w) = Nowhere 5
+spotIn p g off (Inner w) = Nowhere noBlock
 
 abbrev pub spotFrom : Pool → ℕ → ℕ → Spot
 spotFrom p q g = spotIn p g (q - 4096 * g) (kindAt p g)
 
 -- the block or slot at the place q: a large run of so many pages, a taken slot of a class, or a refusal
 unfoldable pub spot : ℕ → Pool → ℕ → Spot
-spot c p q = cond (ltb (q / 4096) (512 * c)) (spotFrom p q (firstPage p (q / 4096))) (Nowhere 5)
+spot c p q = cond (ltb (q / 4096) (512 * c)) (spotFrom p q (firstPage p (q / 4096))) (Nowhere noBlock)
 
 -- ---- release
 

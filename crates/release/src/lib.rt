@@ -1,4 +1,6 @@
 // Release and block size: what starts at a place, and how it is given back.
+use refusals::FREE_SLOT;
+use refusals::NO_BLOCK;
 ghost use mathlib.Core.Path.{_≡_};
 ghost use Prim.Native.Nat.{ℕ, _+_, _*_, _<_, _≤_};
 ghost use lib.ListN.{length, getD};
@@ -41,16 +43,16 @@ pub fn slot_spot(slots: &[u64], g: usize, b: usize, off: usize, bytes: usize, co
     ensures { λ r. ⌜ r ≡ slotSpot (now (slots .entry)) g b off ⌝ }
 {
     if off % bytes != 0 {
-        return Spot::Nowhere(5);
+        return Spot::Nowhere(NO_BLOCK);
     }
     let s = off / bytes;
     if count <= s {
-        return Spot::Nowhere(5);
+        return Spot::Nowhere(NO_BLOCK);
     }
     if bitrow::is_set(slots, 512 * g + s) {
         return Spot::Slot(g, b, s);
     }
-    Spot::Nowhere(6)
+    Spot::Nowhere(FREE_SLOT)
 }
 
 // What the place q lies in.
@@ -88,7 +90,7 @@ pub fn spot_at(c: u64, bits: &[u64], words: &[u32], slots: &[u64], q: u64) -> Sp
 {
     match area_at(c, bits, words, slots, q) {
         Area::Bare => {
-            return Spot::Nowhere(5);
+            return Spot::Nowhere(NO_BLOCK);
         }
         Area::Large(g, n) => {
             return Spot::Run(g, n);

@@ -4,12 +4,13 @@ use mathlib.Core.Logic.{_≢_}
 use Prim.Native.Nat.{ℕ, _+_, _*_, _≤_, _<_}
 use native.Mathlib.Nat.{mul-le-mul}
 use native.Mathlib.Omega.{arith}
+use Rattle.refusals.proofs.CallLaws.{refused, served}
 use Rattle.classes.specs.Classes.{size}
 use Rattle.classes.proofs.ClassLaws.{row-facts}
 use Rattle.records.specs.Pool.{Pool}
 use Rattle.records.specs.Calls.{admitOf, Left, leaves}
 use Rattle.records.proofs.RunLaws.{class-at-low}
-use Rattle.records.proofs.AdmitLaws.{admitted, refused, served}
+use Rattle.records.proofs.AdmitLaws.{admitted}
 use Rattle.reserve.specs.declared.Plan.{Plan}
 use Rattle.reserve.specs.declared.Plan.the-variants.{Refuse, InRun, NewRun, NewLarge}
 use Rattle.reserve.specs.declared.Given.the-variants.{Slot, Run}

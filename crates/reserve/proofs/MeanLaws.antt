@@ -9,6 +9,7 @@ use native.Mathlib.Nat.{mul-le-mul-right}
 use native.Mathlib.Omega.{arith}
 use lib.Dec.{ltb}
 use borrow.Author.Tests.{eq-eqb, lt-ltb}
+use Rattle.refusals.specs.Refusals.{noRoom}
 use Rattle.bitrow.specs.Row.{bitAt, isSet}
 use Rattle.classes.specs.Classes.{size, slots, pages}
 use Rattle.classes.proofs.ClassLaws.{any-row, row-facts}
@@ -28,7 +29,7 @@ use Rattle.blocks.proofs.KeepLaws.{put-large, put-slot, put-class, good-admit}
 use Rattle.reserve.specs.declared.Plan.{Plan}
 use Rattle.reserve.specs.declared.Plan.the-variants.{Refuse, InRun, NewRun, NewLarge}
 use Rattle.reserve.specs.declared.Reserved.{Reserved}
-use Rattle.reserve.specs.Reserve.{freeSlot, hasSlot, slotPage, ifFound, slotOrRun, planSlot, planRun, plan}
+use Rattle.reserve.specs.Reserve.{lowestFree, hasSlot, slotPage, ifFound, slotOrRun, planSlot, planRun, plan}
 use Rattle.reserve.specs.Reserve.{perform, answer, attempt, reserveOf}
 use Rattle.reserve.specs.Plans.{PlanOk}
 use Rattle.reserve.specs.Means.{blockOf, NoSlot, NoGap, ReserveMeans}
@@ -64,9 +65,9 @@ unfolding slotAt isSet
 free-bit p g s e f = false≢true (sym e ∙ eq-eqb (bitAt (p .slots) (512 * g + s)) 1 f)
 
 -- a free slot is not below the lowest one
-free-above : (p : Pool) (b g s : ℕ) → s < slots b → slotAt p g s ≡ false → freeSlot (p .slots) b g ≤ s
+free-above : (p : Pool) (b g s : ℕ) → s < slots b → slotAt p g s ≡ false → lowestFree (p .slots) b g ≤ s
 free-above p b g s l e =
-    by-cases (decLt s (freeSlot (p .slots) b g)) (λ h. absurd (free-bit p g s e (free-first (p .slots) b g .below (512 * g + s) (omega arith) (omega arith))))
+    by-cases (decLt s (lowestFree (p .slots) b g)) (λ h. absurd (free-bit p g s e (free-first (p .slots) b g .below (512 * g + s) (omega arith) (omega arith))))
     (λ h. omega arith)
 
 -- so a run that has one is found
@@ -74,15 +75,15 @@ pub found-run : (p : Pool) (b g s : ℕ) → kindAt p g ≡ Class b → s < slot
 unfolding hasSlot
 found-run p b g s k l e =
     let a = free-above p b g s l e in
-    and-made (isRunOf b (kindAt p g)) (ltb (freeSlot (p .slots) b g) (slots b)) (ap (isRunOf b) k ∙ eq-eqb b b refl)
-    (lt-ltb (freeSlot (p .slots) b g) (slots b) (omega arith))
+    and-made (isRunOf b (kindAt p g)) (ltb (lowestFree (p .slots) b g) (slots b)) (ap (isRunOf b) k ∙ eq-eqb b b refl)
+    (lt-ltb (lowestFree (p .slots) b g) (slots b) (omega arith))
 
 -- the first page at which a run of class b with a free slot starts
 abbrev firstRun : ℕ → Pool → ℕ → ℕ
 firstRun c p b = slotPage p b 0 (512 * c)
 
 -- where there is one, the plan is its lowest free slot
-plan-in : (c : ℕ) (p : Pool) (b : ℕ) → firstRun c p b < 512 * c → planSlot c p b ≡ InRun (firstRun c p b) b (freeSlot (p .slots) b (firstRun c p b))
+plan-in : (c : ℕ) (p : Pool) (b : ℕ) → firstRun c p b < 512 * c → planSlot c p b ≡ InRun (firstRun c p b) b (lowestFree (p .slots) b (firstRun c p b))
 unfolding planSlot slotOrRun
 plan-in c p b l = cond-lt (firstRun c p b) (512 * c) _ _ l
 
@@ -91,13 +92,13 @@ plan-new : (c : ℕ) (p : Pool) (b : ℕ) → 512 * c ≤ firstRun c p b → pla
 unfolding planSlot slotOrRun
 plan-new c p b l = cond-nlt (firstRun c p b) (512 * c) _ _ l
 
-slot-plan : (c : ℕ) (p : Pool) (b g s : ℕ) → planSlot c p b ≡ InRun g b s → (g ≡ firstRun c p b) × (s ≡ freeSlot (p .slots) b g) × (g < 512 * c)
+slot-plan : (c : ℕ) (p : Pool) (b g s : ℕ) → planSlot c p b ≡ InRun g b s → (g ≡ firstRun c p b) × (s ≡ lowestFree (p .slots) b g) × (g < 512 * c)
 slot-plan c p b g s e =
     by-cases (decLt (firstRun c p b) (512 * c))
     (λ l. let f = sym (plan-in c p b l) ∙ e in
     let x : firstRun c p b ≡ g = cc in
-    let y : freeSlot (p .slots) b (firstRun c p b) ≡ s = cc in
-    (sym x, sym y ∙ ap (freeSlot (p .slots) b) x, omega arith))
+    let y : lowestFree (p .slots) b (firstRun c p b) ≡ s = cc in
+    (sym x, sym y ∙ ap (lowestFree (p .slots) b) x, omega arith))
     (λ l. absurd (no (findPages c (p .bits) (pages b)) (sym (plan-new c p b (omega arith)) ∙ e)))
   where
     no : (x : Found) → ifFound x (λ f. NewRun f b) ≡ InRun g b s → ⊥
@@ -117,14 +118,14 @@ lowest-slot c p h b g s e f t lf k lt free′ =
     by-cases (ℕ-discrete f g) (λ q. same q y (free-above p b f t lt free′)) (λ q. apart q z low x (own .kind) (own .slot) y)
   where
     -- in the same run
-    same : f ≡ g → s ≡ freeSlot (p .slots) b g → freeSlot (p .slots) b f ≤ t → 4096 * g + s * size b ≤ 4096 * f + t * size b
+    same : f ≡ g → s ≡ lowestFree (p .slots) b g → lowestFree (p .slots) b f ≤ t → 4096 * g + s * size b ≤ 4096 * f + t * size b
     same q y a =
-        let r : freeSlot (p .slots) b f ≡ freeSlot (p .slots) b g = ap (freeSlot (p .slots) b) q in
+        let r : lowestFree (p .slots) b f ≡ lowestFree (p .slots) b g = ap (lowestFree (p .slots) b) q in
         let m = mul-le-mul-right {m = s} {n = t} (size b) (omega arith) in omega arith
 
     -- in a run behind it
-    apart : f ≢ g → g < 512 * c → firstRun c p b ≤ f → g ≡ firstRun c p b → kindAt p g ≡ Class b → freeSlot (p .slots) b g < slots b
-        → s ≡ freeSlot (p .slots) b g → 4096 * g + s * size b ≤ 4096 * f + t * size b
+    apart : f ≢ g → g < 512 * c → firstRun c p b ≤ f → g ≡ firstRun c p b → kindAt p g ≡ Class b → lowestFree (p .slots) b g < slots b
+        → s ≡ lowestFree (p .slots) b g → 4096 * g + s * size b ≤ 4096 * f + t * size b
     apart q z low x kg sl y =
         let span : spanOf (kindAt p g) ≡ suc (pages b - 1) = ap spanOf kg in
         let spanf : spanOf (kindAt p f) ≡ suc (pages b - 1) = ap spanOf k in
@@ -139,7 +140,7 @@ lowest-slot c p h b g s e f t lf k lt free′ =
 -- ---- refusal 4
 
 -- a search that is refused found nothing
-none-found : (f : ℕ → Plan) → ((g r : ℕ) → f g ≢ Refuse r) → (x : Found) → ifFound x f ≡ Refuse 4 → x ≡ Nothing
+none-found : (f : ℕ → Plan) → ((g r : ℕ) → f g ≢ Refuse r) → (x : Found) → ifFound x f ≡ Refuse noRoom → x ≡ Nothing
 none-found f n (At g) e = absurd (n g 4 e)
 none-found f n Nothing e = refl
 
@@ -152,7 +153,7 @@ new-large n g r e = let z : _≡_ {A = ℕ} 0 1 = cc in omega arith
 in-run : (g b s r : ℕ) → InRun g b s ≢ Refuse r
 in-run g b s r e = let z : _≡_ {A = ℕ} 0 1 = cc in omega arith
 
-run-refused : (c : ℕ) (bits : List ℕ) (n : ℕ) → (planRun c bits n ≡ Refuse 4) ↔ NoGap c bits n
+run-refused : (c : ℕ) (bits : List ℕ) (n : ℕ) → (planRun c bits n ≡ Refuse noRoom) ↔ NoGap c bits n
 unfolding planRun
 run-refused c bits n = (
   λ e. nothing-none c bits n (none-found (λ g. NewLarge g n) (new-large n) (findPages c bits n) e),
@@ -166,10 +167,10 @@ taken-bit p g s n = go (slotAt p g s) n
     go true m = refl
     go false m = absurd (m refl)
 
-slot-refused : (c : ℕ) (p : Pool) (b : ℕ) → (planSlot c p b ≡ Refuse 4) ↔ (NoSlot c p b × NoGap c (p .bits) (pages b))
+slot-refused : (c : ℕ) (p : Pool) (b : ℕ) → (planSlot c p b ≡ Refuse noRoom) ↔ (NoSlot c p b × NoGap c (p .bits) (pages b))
 slot-refused c p b = (to, from)
   where
-    to : planSlot c p b ≡ Refuse 4 → NoSlot c p b × NoGap c (p .bits) (pages b)
+    to : planSlot c p b ≡ Refuse noRoom → NoSlot c p b × NoGap c (p .bits) (pages b)
     to e =
         let w = searched p b (512 * c) 0 in
         by-cases (decLt (firstRun c p b) (512 * c)) (λ l. absurd (in-run _ _ _ 4 (sym (plan-in c p b l) ∙ e)))
@@ -179,12 +180,12 @@ slot-refused c p b = (to, from)
               (none-found (λ f. NewRun f b) (new-run b) (findPages c (p .bits) (pages b)) (sym (plan-new c p b (omega arith)) ∙ e)),
         ))
 
-    from : NoSlot c p b × NoGap c (p .bits) (pages b) → planSlot c p b ≡ Refuse 4
+    from : NoSlot c p b × NoGap c (p .bits) (pages b) → planSlot c p b ≡ Refuse noRoom
     from (s, g) =
         let w = searched p b (512 * c) 0 in
         by-cases (decLt (firstRun c p b) (512 * c))
         (λ l. let f = has-free c p b (firstRun c p b) l (w .here (omega arith)) in
-        absurd (false≢true (sym (f .clear) ∙ s (firstRun c p b) (freeSlot (p .slots) b (firstRun c p b)) l (f .kind) (f .slot))))
+        absurd (false≢true (sym (f .clear) ∙ s (firstRun c p b) (lowestFree (p .slots) b (firstRun c p b)) l (f .kind) (f .slot))))
         (λ l. plan-new c p b (omega arith) ∙ ap (λ (x : Found). ifFound x (λ f. NewRun f b)) (none-nothing c (p .bits) (pages b) g))
 
 pub reserve-means : ReserveMeans

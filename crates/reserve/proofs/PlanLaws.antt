@@ -8,6 +8,7 @@ use native.Mathlib.Decide.{ℕ-discrete}
 use native.Mathlib.Omega.{arith}
 use lib.Dec.{ltb}
 use borrow.Author.Tests.{ltb-true}
+use Rattle.refusals.specs.Refusals.{noRoom, tooBig}
 use Rattle.bitrow.specs.Row.{isSet, nextBit}
 use Rattle.bitrow.proofs.Rows.{First, next-first}
 use Rattle.bitrow.proofs.Marks.{zero-clear}
@@ -24,13 +25,13 @@ use Rattle.gaps.specs.Gaps.{findPages}
 use Rattle.gaps.proofs.Answers.{found-free}
 use Rattle.reserve.specs.declared.Plan.{Plan}
 use Rattle.reserve.specs.declared.Plan.the-variants.{Refuse, InRun, NewRun, NewLarge}
-use Rattle.reserve.specs.Reserve.{freeSlot, hasSlot, slotPage, ifFound, slotOrRun, planSlot, planRun, pagesFor, planLarge, plan}
+use Rattle.reserve.specs.Reserve.{lowestFree, hasSlot, slotPage, ifFound, slotOrRun, planSlot, planRun, pagesFor, planLarge, plan}
 use Rattle.reserve.specs.Plans.{SlotFree, PagesFree, PlanOk}
 
 -- ---- the lowest free slot of a run
 
-pub free-first : (bits : List ℕ) (b g : ℕ) → First bits (512 * g) (512 * g + slots b) 0 (512 * g + freeSlot bits b g)
-unfolding freeSlot
+pub free-first : (bits : List ℕ) (b g : ℕ) → First bits (512 * g) (512 * g + slots b) 0 (512 * g + lowestFree bits b g)
+unfolding lowestFree
 free-first bits b g =
     let e : 512 * g + slots b - 512 * g ≡ slots b = omega arith in
     let f : First bits (512 * g) (512 * g + slots b) 0 (nextBit 0 bits (512 * g) (slots b)) =
@@ -45,11 +46,11 @@ free-first bits b g =
 module _ (p : Pool) (b g : ℕ) {t : Bool} (e : t ≡ isRunOf b (kindAt p g)) where
   pub has-not : t ≡ false → false ≡ hasSlot p b g
   unfolding hasSlot
-  has-not h = ap (λ (v : Bool). v && ltb (freeSlot (p .slots) b g) (slots b)) (sym h ∙ e)
+  has-not h = ap (λ (v : Bool). v && ltb (lowestFree (p .slots) b g) (slots b)) (sym h ∙ e)
 
-  pub has-by-slot : t ≡ true → {n s : ℕ} → n ≡ slots b → s ≡ freeSlot (p .slots) b g → ltb s n ≡ hasSlot p b g
+  pub has-by-slot : t ≡ true → {n s : ℕ} → n ≡ slots b → s ≡ lowestFree (p .slots) b g → ltb s n ≡ hasSlot p b g
   unfolding hasSlot
-  has-by-slot h x y = ap₂ ltb y x ∙ ap (λ (v : Bool). v && ltb (freeSlot (p .slots) b g) (slots b)) (sym h ∙ e)
+  has-by-slot h x y = ap₂ ltb y x ∙ ap (λ (v : Bool). v && ltb (lowestFree (p .slots) b g) (slots b)) (sym h ∙ e)
 
 -- ---- the first page with a free slot
 
@@ -105,16 +106,16 @@ searched p b (suc n) g = go (hasSlot p b g) refl (searched p b n (suc g))
           before = λ i x y. by-cases (ℕ-discrete i g) (λ q. ap (hasSlot p b) q ∙ e) (λ q. s .before i (omega arith) (omega arith));
         }
 
-pub has-free : (c : ℕ) (p : Pool) (b g : ℕ) → g < 512 * c → hasSlot p b g ≡ true → SlotFree c p g b (freeSlot (p .slots) b g)
+pub has-free : (c : ℕ) (p : Pool) (b g : ℕ) → g < 512 * c → hasSlot p b g ≡ true → SlotFree c p g b (lowestFree (p .slots) b g)
 unfolding hasSlot slotAt isSet
 has-free c p b g l e =
-    let k = run-of b (kindAt p g) (and-left (isRunOf b (kindAt p g)) (ltb (freeSlot (p .slots) b g) (slots b)) e) in
-    let h = ltb-true (freeSlot (p .slots) b g) (slots b) (and-right (isRunOf b (kindAt p g)) (ltb (freeSlot (p .slots) b g) (slots b)) e) in
+    let k = run-of b (kindAt p g) (and-left (isRunOf b (kindAt p g)) (ltb (lowestFree (p .slots) b g) (slots b)) e) in
+    let h = ltb-true (lowestFree (p .slots) b g) (slots b) (and-right (isRunOf b (kindAt p g)) (ltb (lowestFree (p .slots) b g) (slots b)) e) in
     record {
       inside = l;
       kind = k;
       slot = h;
-      clear = zero-clear (p .slots) (512 * g + freeSlot (p .slots) b g) (free-first (p .slots) b g .here (omega arith));
+      clear = zero-clear (p .slots) (512 * g + lowestFree (p .slots) b g) (free-first (p .slots) b g .here (omega arith));
     }
 
 -- ---- free pages
@@ -164,8 +165,8 @@ plan-ok c p s n =
 -- ---- the code's own forms
 
 pub free-is : (bits : List ℕ) (b g n r : ℕ) → n ≡ slots b → r ≡ nextBit 0 bits (512 * g) (512 * g + n - 512 * g)
-    → (512 * g ≤ r) × (r - 512 * g ≡ freeSlot bits b g)
-unfolding freeSlot
+    → (512 * g ≤ r) × (r - 512 * g ≡ lowestFree bits b g)
+unfolding lowestFree
 free-is bits b g n r e f =
     let q : 512 * g + n - 512 * g ≡ slots b = omega arith in
     let h : r ≡ nextBit 0 bits (512 * g) (slots b) = f ∙ ap (nextBit 0 bits (512 * g)) q in
@@ -174,7 +175,7 @@ free-is bits b g n r e f =
     (k, ap (λ (x : ℕ). x - 512 * g) h)
 
 module _ (c : ℕ) (p : Pool) (b : ℕ) where
-  pub plan-in : (g s : ℕ) → g ≡ slotPage p b 0 (512 * c) → g < 512 * c → s ≡ freeSlot (p .slots) b g → InRun g b s ≡ planSlot c p b
+  pub plan-in : (g s : ℕ) → g ≡ slotPage p b 0 (512 * c) → g < 512 * c → s ≡ lowestFree (p .slots) b g → InRun g b s ≡ planSlot c p b
   unfolding planSlot slotOrRun
   plan-in g s e l f = ap (InRun g b) f ∙ sym (ap (slotOrRun c p b) (sym e) ∙ cond-lt g (512 * c) _ _ l)
 
@@ -188,7 +189,7 @@ module _ (c : ℕ) (p : Pool) (b : ℕ) where
       ap (λ (y : Found). ifFound y (λ i. NewRun i b)) (sym k ∙ h ∙ ap (findPages c (p .bits)) m) ∙ new-run g e l
 
   pub plan-none : (g n : ℕ) (x : Found) → g ≡ slotPage p b 0 (512 * c) → 512 * c ≤ g → n ≡ pages b → x ≡ findPages c (p .bits) n → x ≡ Nothing
-      → Refuse 4 ≡ planSlot c p b
+      → Refuse noRoom ≡ planSlot c p b
   plan-none g n x e l m h k =
       ap (λ (y : Found). ifFound y (λ i. NewRun i b)) (sym k ∙ h ∙ ap (findPages c (p .bits)) m) ∙ new-run g e l
 
@@ -197,7 +198,7 @@ module _ (c : ℕ) (bits : List ℕ) (n : ℕ) (x : Found) (h : x ≡ findPages 
   unfolding planRun
   run-at g k = ap (λ (y : Found). ifFound y (λ i. NewLarge i n)) (sym k ∙ h)
 
-  pub run-none : x ≡ Nothing → Refuse 4 ≡ planRun c bits n
+  pub run-none : x ≡ Nothing → Refuse noRoom ≡ planRun c bits n
   unfolding planRun
   run-none k = ap (λ (y : Found). ifFound y (λ i. NewLarge i n)) (sym k ∙ h)
 
@@ -215,7 +216,7 @@ module _ (c : ℕ) (bits : List ℕ) (n : ℕ) where
   unfolding planLarge
   large-run m x h e f = f ∙ ap (planRun c bits) e ∙ sym (cond-le n 2093056 _ _ h)
 
-  pub large-huge : 2093056 < n → Refuse 3 ≡ planLarge c bits n
+  pub large-huge : 2093056 < n → Refuse tooBig ≡ planLarge c bits n
   unfolding planLarge
   large-huge h = sym (cond-nle n 2093056 _ _ h)
 

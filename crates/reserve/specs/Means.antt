@@ -4,6 +4,7 @@ use mathlib.Core.Logic.{_↔_}
 use mathlib.Core.Bool.{true, false}
 use mathlib.Core.List.{List}
 use Prim.Native.Nat.{ℕ, suc, _+_, _*_, _≤_, _<_}
+use Rattle.refusals.specs.Refusals.{noRoom}
 use Rattle.classes.specs.Classes.{size, slots, pages}
 use Rattle.records.specs.declared.Kind.the-variants.{Class}
 use Rattle.records.specs.Pool.{Pool, kindAt, slotAt}
@@ -36,5 +37,5 @@ pub record ReserveMeans : Type 0 where
   pub lowest : (c : ℕ) (p : Pool) → Good c p → (b g s : ℕ) → planSlot c p b ≡ InRun g b s
       → (f t : ℕ) → f < 512 * c → kindAt p f ≡ Class b → t < slots b → slotAt p f t ≡ false → 4096 * g + s * size b ≤ 4096 * f + t * size b
   -- refusal 4 is given exactly when there is neither a free slot nor a long enough gap
-  pub no-slot : (c : ℕ) (p : Pool) (b : ℕ) → (planSlot c p b ≡ Refuse 4) ↔ (NoSlot c p b × NoGap c (p .bits) (pages b))
-  pub no-run : (c : ℕ) (bits : List ℕ) (n : ℕ) → (planRun c bits n ≡ Refuse 4) ↔ NoGap c bits n
+  pub no-slot : (c : ℕ) (p : Pool) (b : ℕ) → (planSlot c p b ≡ Refuse noRoom) ↔ (NoSlot c p b × NoGap c (p .bits) (pages b))
+  pub no-run : (c : ℕ) (bits : List ℕ) (n : ℕ) → (planRun c bits n ≡ Refuse noRoom) ↔ NoGap c bits n

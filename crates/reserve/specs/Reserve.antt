@@ -3,12 +3,13 @@ use mathlib.Core.Bool.{Bool, cond, _&&_}
 use mathlib.Core.List.{List}
 use Prim.Native.Nat.{ℕ, zero, suc, _+_, _-_, _*_, _/_}
 use lib.Dec.{ltb, leb}
+use Rattle.refusals.specs.Refusals.{unless, noRoom, tooBig}
 use Rattle.bitrow.specs.Row.{nextBit}
 use Rattle.classes.specs.Classes.{size, slots, pages, classFor}
 use Rattle.records.specs.declared.Kind.the-variants.{Large, Class}
 use Rattle.records.specs.Kinds.{wordsOf, isRunOf}
 use Rattle.records.specs.Pool.{Pool, kindAt}
-use Rattle.records.specs.Calls.{admitOf, unless, Left, leaves}
+use Rattle.records.specs.Calls.{admitOf, Left, leaves}
 use Rattle.gaps.specs.declared.Found.{Found}
 use Rattle.gaps.specs.declared.Found.the-variants.{At, Nothing}
 use Rattle.gaps.specs.Gaps.{findPages}
@@ -21,12 +22,12 @@ use Rattle.reserve.specs.declared.Reserved.{Reserved}
 -- ---- the free slot with the lowest place among all runs of a class
 
 -- the number of the lowest free slot of a run of class b that starts at page g; the number of its slots where none is free
-unfoldable pub freeSlot : List ℕ → ℕ → ℕ → ℕ
-freeSlot bits b g = nextBit 0 bits (512 * g) (slots b) - 512 * g
+unfoldable pub lowestFree : List ℕ → ℕ → ℕ → ℕ
+lowestFree bits b g = nextBit 0 bits (512 * g) (slots b) - 512 * g
 
 -- a run of class b that has a free slot starts at page g
 unfoldable pub hasSlot : Pool → ℕ → ℕ → Bool
-hasSlot p b g = isRunOf b (kindAt p g) && ltb (freeSlot (p .slots) b g) (slots b)
+hasSlot p b g = isRunOf b (kindAt p g) && ltb (lowestFree (p .slots) b g) (slots b)
 
 -- the first such page of the n pages from g on, or the page behind them
 unfoldable pub slotPage : Pool → ℕ → ℕ → ℕ → ℕ
@@ -37,11 +38,11 @@ slotPage p b g (suc n) = let later = slotPage p b (suc g) n in cond (hasSlot p b
 
 abbrev pub ifFound : Found → (ℕ → Plan) → Plan
 ifFound (At g) f = f g
-ifFound Nothing f = Refuse 4
+ifFound Nothing f = Refuse noRoom
 
 -- the lowest free slot of the run of class b at page g; or, where g is behind the last page, a new run
 unfoldable pub slotOrRun : ℕ → Pool → ℕ → ℕ → Plan
-slotOrRun c p b g = cond (ltb g (512 * c)) (InRun g b (freeSlot (p .slots) b g)) (ifFound (findPages c (p .bits) (pages b)) (λ f. NewRun f b))
+slotOrRun c p b g = cond (ltb g (512 * c)) (InRun g b (lowestFree (p .slots) b g)) (ifFound (findPages c (p .bits) (pages b)) (λ f. NewRun f b))
 
 -- a slot of class b: in a run that stands, else in a new one
 unfoldable pub planSlot : ℕ → Pool → ℕ → Plan
@@ -57,7 +58,7 @@ pagesFor n = (n + 4095) / 4096
 
 -- n bytes, more than a slot holds, by the page bits
 unfoldable pub planLarge : ℕ → List ℕ → ℕ → Plan
-planLarge c bits n = cond (leb n 2093056) (planRun c bits (pagesFor n)) (Refuse 3)
+planLarge c bits n = cond (leb n 2093056) (planRun c bits (pagesFor n)) (Refuse tooBig)
 
 unfoldable pub plan : ℕ → Pool → ℕ → Plan
 plan c p n = cond (leb n 3072) (planSlot c p (classFor n)) (planLarge c (p .bits) n)

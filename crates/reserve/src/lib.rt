@@ -1,4 +1,6 @@
 // Reserve: a slot of the smallest class that holds the request, or a run of pages.
+use refusals::NO_ROOM;
+use refusals::TOO_BIG;
 ghost use mathlib.Core.Path.{_≡_};
 ghost use Prim.Native.Nat.{ℕ, _+_, _-_, _*_, _<_, _≤_};
 ghost use lib.ListN.{length, getD};
@@ -9,7 +11,7 @@ ghost use Rattle.records.specs.declared.Kind.the-variants.{Large, Class};
 ghost use Rattle.records.specs.Kinds.{slotsOf, wordsOf};
 ghost use Rattle.records.specs.Lent.{lent, before, after};
 ghost use Rattle.records.specs.Calls.{admitOf, leaves};
-ghost use Rattle.reserve.specs.Reserve.{freeSlot, hasSlot, slotPage, planSlot, planRun, planLarge, plan, perform, slotGiven, answer, attempt, reserveOf};
+ghost use Rattle.reserve.specs.Reserve.{lowestFree, hasSlot, slotPage, planSlot, planRun, planLarge, plan, perform, slotGiven, answer, attempt, reserveOf};
 ghost use Rattle.reserve.specs.Means.{ReserveMeans};
 ghost use Rattle.reserve.specs.Plans.{PlanOk, PlanLow, PlanSize};
 
@@ -44,9 +46,9 @@ pub struct Reserved {
 }
 
 // The number of the lowest free slot of the run of class b at page g, which has n slots; n where none is free.
-pub fn free_slot(slots: &[u64], g: usize, b: usize, n: usize) -> usize
+pub fn lowest_free(slots: &[u64], g: usize, b: usize, n: usize) -> usize
     requires { ⌜ (g < 8192) × (512 * g + 512 ≤ 64 * length (now slots)) × (n ≡ slotsOf (Class b)) × (n ≤ 512) ⌝ }
-    ensures { λ r. ⌜ r ≡ freeSlot (now (slots .entry)) b g ⌝ }
+    ensures { λ r. ⌜ r ≡ lowestFree (now (slots .entry)) b g ⌝ }
 {
     bitrow::next_bit(slots, 512 * g, 512 * g + n, false) - 512 * g
 }
@@ -67,7 +69,7 @@ fn has_slot(
     if !records::is_run_of(c, bits, words, slots, g, b) {
         return false;
     }
-    free_slot(slots, g, b, n) < n
+    lowest_free(slots, g, b, n) < n
 }
 
 // The first page at which a run of class b with a free slot starts; behind the last page where there is none.
@@ -100,7 +102,7 @@ pub fn plan_slot(
     ensures { λ r. ⌜ r ≡ planSlot c (before bits words slots) b ⌝ }
 {
     if g < 512 * (c as usize) {
-        let s = free_slot(slots, g, b, n);
+        let s = lowest_free(slots, g, b, n);
         return Plan::InRun(g, b, s);
     }
     let row = classes::class_row(b);
@@ -110,7 +112,7 @@ pub fn plan_slot(
             return Plan::NewRun(f, b);
         }
         gaps::Found::Nothing => {
-            return Plan::Refuse(4);
+            return Plan::Refuse(NO_ROOM);
         }
     }
 }
@@ -125,7 +127,7 @@ fn plan_run(c: u64, bits: &[u64], n: usize) -> Plan
             return Plan::NewLarge(g, n);
         }
         gaps::Found::Nothing => {
-            return Plan::Refuse(4);
+            return Plan::Refuse(NO_ROOM);
         }
     }
 }
@@ -136,7 +138,7 @@ pub fn plan_large(c: u64, bits: &[u64], n: u64) -> Plan
     ensures { λ r. ⌜ r ≡ planLarge c (now (bits .entry)) n ⌝ }
 {
     if 2093056 < n {
-        return Plan::Refuse(3);
+        return Plan::Refuse(TOO_BIG);
     }
     let m = ((n + 4095) / 4096) as usize;
     plan_run(c, bits, m)

@@ -7,8 +7,9 @@ use Prim.Native.Nat.{ℕ, zero, suc, _-_}
 use native.Mathlib.Omega.{arith}
 use lib.Dec.{eqb, ltb}
 use lib.ListN.{length}
+use Rattle.refusals.specs.Refusals.{unless}
 use Rattle.records.specs.Pool.{Pool}
-use Rattle.records.specs.Calls.{fit, admitOf, unless, Left, leaves, freshPool, freshOf}
+use Rattle.records.specs.Calls.{fit, admitOf, Left, leaves, freshPool, freshOf}
 use Rattle.records.proofs.Flags.{eq-cases}
 use Rattle.records.proofs.AdmitLaws.{shaped-lengths}
 use Rattle.records.proofs.FreshLaws.{fresh-served}

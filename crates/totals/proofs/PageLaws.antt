@@ -8,6 +8,7 @@ use Prim.Native.Nat.{ℕ, zero, suc, _+_, _*_, _/_, _%_, _≤_, _<_}
 use native.Mathlib.Decide.{ℕ-discrete}
 use native.Mathlib.Omega.{arith}
 use lib.ListN.{length}
+use Rattle.refusals.proofs.CallLaws.{refused, served}
 use Rattle.bitrow.specs.Row.{digit, bitAt, isSet, countBits}
 use Rattle.records.specs.declared.Kind.{Kind}
 use Rattle.records.specs.declared.Kind.the-variants.{Edge, Free, Damaged, Large, Class, Inner}
@@ -18,7 +19,7 @@ use Rattle.records.specs.Calls.{admitOf}
 use Rattle.records.proofs.WalkLaws.{walk, walk-next, sound-walks, step-inner}
 use Rattle.records.proofs.RunLaws.{begins-run}
 use Rattle.records.proofs.WordLaws.{page-word, page-large, page-inside, page-edge, page-free}
-use Rattle.records.proofs.AdmitLaws.{admitted, refused, served}
+use Rattle.records.proofs.AdmitLaws.{admitted}
 use Rattle.blocks.specs.Blocks.{live}
 use Rattle.totals.specs.declared.Tally.{Tally}
 use Rattle.totals.specs.declared.Sums.{Sums}

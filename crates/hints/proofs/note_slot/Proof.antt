@@ -24,8 +24,8 @@ mul-n c = search needs
 slice-read-n : tie.Need-slice-read-n
 slice-read-n c = search needs
 
-free-slot-requires : tie.Need-free-slot-requires
-free-slot-requires c κs =
+lowest-free-requires : tie.Need-lowest-free-requires
+lowest-free-requires c κs =
     let e = c .before .before .before .before .pre .0 .counts _ (c .before .before .before .before .pre .2) in
     (c .before .before .before .before .pre .1, omega arith, e, class-few (c .before .before .before .before .pre .2) e)
 
@@ -38,7 +38,7 @@ same-length c = search needs
 returns : tie.Need-returns
 returns c =
     let d = c .before .before .before .before .before .before .before .before .before in (
-      slot-is _ _ _ _ (c .before .before .before .before .free-slot .ensures) (d .pre .0 .counts _ (d .pre .2))
+      slot-is _ _ _ _ (c .before .before .before .before .lowest-free .ensures) (d .pre .0 .counts _ (d .pre .2))
           (c .before .before .note .ensures),
       d .pre .0 .sizes _ (d .pre .2),
     )
@@ -53,7 +53,7 @@ note-slot-spec =
     add-n
     mul-n
     slice-read-n
-    free-slot-requires
+    lowest-free-requires
     note-requires
     same-length
     returns)

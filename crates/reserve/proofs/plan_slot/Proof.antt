@@ -10,13 +10,13 @@ use Rattle.reserve.proofs.plan_slot.Tie as tie
 mul-if1 : tie.Need-mul-if1
 mul-if1 c = let a = admitted _ _ (c .before .before .before .pre .0) in let h = a .shape in record { fits = omega arith }
 
-free-slot-requires : tie.Need-free-slot-requires
-free-slot-requires c κs =
+lowest-free-requires : tie.Need-lowest-free-requires
+lowest-free-requires c κs =
     let d = c .before .before .before .before in let a = admitted _ _ (d .pre .0) in let h = a .shape in
     (omega arith, omega arith, d .pre .2, class-few (d .pre .1) (d .pre .2))
 
 returns : tie.Need-returns
-returns c = plan-in _ _ _ _ _ (c .before .before .before .before .before .pre .3) (c .before .if1 .taken) (c .free-slot .ensures)
+returns c = plan-in _ _ _ _ _ (c .before .before .before .before .before .pre .3) (c .before .if1 .taken) (c .lowest-free .ensures)
 
 class-row-requires : tie.Need-class-row-requires
 class-row-requires c κs = search needs
@@ -53,7 +53,7 @@ plan-slot-spec =
     tie.close
     (tie.spec
     mul-if1
-    free-slot-requires
+    lowest-free-requires
     returns
     class-row-requires
     wide16-requires

@@ -1,8 +1,8 @@
--- `reserve::free_slot` meets its contract. Assumes nothing.
+-- `reserve::lowest_free` meets its contract. Assumes nothing.
 use Rattle.reserve.proofs.PlanLaws.{free-is}
 use borrow.Author.Needs.{needs}
-use Rattle.reserve.proofs.free_slot.Statement.{statement}
-use Rattle.reserve.proofs.free_slot.Tie as tie
+use Rattle.reserve.proofs.lowest_free.Statement.{statement}
+use Rattle.reserve.proofs.lowest_free.Tie as tie
 
 mul-next-bit : tie.Need-mul-next-bit
 mul-next-bit c = search needs
@@ -25,8 +25,8 @@ sub-result c = free-is _ _ _ _ _ (c .before .before .pre .2) (c .next-bit .ensur
 returns : tie.Need-returns
 returns c = free-is _ _ _ _ _ (c .before .before .pre .2) (c .next-bit .ensures) .1
 
-pub free-slot-spec : {M : Type 1} → statement M
-free-slot-spec =
+pub lowest-free-spec : {M : Type 1} → statement M
+lowest-free-spec =
     tie.close
     (tie.spec
     mul-next-bit
