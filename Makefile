@@ -44,8 +44,8 @@ VERSION = 1.0
 
 # What the sources need, whatever CFLAGS says.
 override CFLAGS += -std=c99 -pedantic
-INCLUDES = -Iinclude -Itests -Ibench
-HEADERS = $(wildcard include/*.h tests/*.h bench/*.h)
+INCLUDES = -Iinclude -Itests/model -Itests/inputs -Itests/harness -Ibench
+HEADERS = $(wildcard include/*.h tests/*/*.h bench/*.h)
 
 # The library is proved again when any source or proof of it has changed.
 PROVED = crates.txt $(shell find crates -name '*.rt' -o -name '*.antt')
@@ -95,62 +95,47 @@ build/bench/others.o: bench/others.c $(HEADERS) Makefile
 	@mkdir -p $(@D)
 	$(CC) $(CFLAGS) $(if $(PHP_LIB),-DWITH_PHP) $(INCLUDES) -c $< -o $@
 
-SHARED = groups calls trials shapes cases lent model
-DAMAGE_OBJECTS = $(patsubst %,build/tests/%.o,damage $(SHARED))
-SERIES_OBJECTS = $(patsubst %,build/tests/%.o,series readers twin draws pool book $(SHARED))
-REPLAYS_OBJECTS = $(patsubst %,build/tests/%.o,replays parts stage logs known drafts \
-	twin draws pool book $(SHARED))
-FUZZED = readers logs twin draws pool book $(SHARED)
-FUZZ_SOURCES = fuzz/boundary.c $(patsubst %,tests/%.c,$(FUZZED))
-SEEDS_OBJECTS = build/fuzz/once.o build/fuzz/boundary.o $(patsubst %,build/tests/%.o,$(FUZZED))
-PROGRAM_OBJECTS = $(patsubst %,build/tests/%.o,program child logs known drafts draws pool book groups model)
-MAPS_OBJECTS = $(patsubst %,build/tests/%.o,maps drawings markup child logs known drafts draws \
-	pool book groups model)
-PHP_OBJECTS = $(patsubst %,build/tests/%.o,php draws groups calls lent model pool book)
-BENCH_SHARED = build/bench/timing.o build/bench/or.o build/tests/model.o
+# What the test programs are made of, beside their own file: of this archive
+# the linker takes what a program needs. The model is compiled without the
+# library's header, and that of any other folder: it shares nothing with them.
+SHARED_SOURCES = $(wildcard tests/model/*.c tests/inputs/*.c tests/harness/*.c)
+SHARED = build/tests/shared.a
+
+build/tests/model/%.o: INCLUDES =
+
+$(SHARED): $(SHARED_SOURCES:%.c=build/%.o)
+	rm -f $@
+	$(AR) rcs $@ $^
 
 # Linked anew each time: LIB may have been another archive before.
-build/damage: $(DAMAGE_OBJECTS) $(LIB)
-	$(CC) $(CFLAGS) $(DAMAGE_OBJECTS) $(LIB) -o $@
+build/damage build/series build/replays: build/%: build/tests/%.o $(SHARED) $(LIB)
+	$(CC) $(CFLAGS) $^ -o $@
 
-build/series: $(SERIES_OBJECTS) $(LIB)
-	$(CC) $(CFLAGS) $(SERIES_OBJECTS) $(LIB) -o $@
+build/program build/maps: build/%: build/tests/%.o $(SHARED)
+	$(CC) $(CFLAGS) $^ -o $@
 
-build/replays: $(REPLAYS_OBJECTS) $(LIB)
-	$(CC) $(CFLAGS) $(REPLAYS_OBJECTS) $(LIB) -o $@
+build/seeds: build/fuzz/once.o build/fuzz/boundary.o $(SHARED) $(LIB)
+	$(CC) $(CFLAGS) $^ -o $@
 
-build/program: $(PROGRAM_OBJECTS)
-	$(CC) $(CFLAGS) $(PROGRAM_OBJECTS) -o $@
-
-build/maps: $(MAPS_OBJECTS)
-	$(CC) $(CFLAGS) $(MAPS_OBJECTS) -o $@
-
-build/seeds: $(SEEDS_OBJECTS) $(LIB)
-	$(CC) $(CFLAGS) $(SEEDS_OBJECTS) $(LIB) -o $@
+FUZZ_SOURCES = fuzz/boundary.c $(SHARED_SOURCES)
 
 build/boundary: $(FUZZ_SOURCES) $(HEADERS) $(LIB)
 	./setup fuzz
 	@mkdir -p $(@D)
 	clang -std=c99 -g -O1 -fsanitize=fuzzer,address $(INCLUDES) $(FUZZ_SOURCES) $(LIB) -o $@
 
-build/php: $(PHP_OBJECTS) $(LIB)
+build/php: build/tests/php.o $(SHARED) $(LIB)
 	./setup php
-	$(CC) $(CFLAGS) $(PHP_OBJECTS) $(LIB) -l:libphp8.2.so -o $@
+	$(CC) $(CFLAGS) $^ -l:libphp8.2.so -o $@
 
-build/check: build/bench/check.o $(BENCH_SHARED) $(LIB)
-	$(CC) $(CFLAGS) build/bench/check.o $(BENCH_SHARED) $(LIB) -o $@
-
-build/calls: build/bench/calls.o $(BENCH_SHARED) $(LIB)
-	$(CC) $(CFLAGS) build/bench/calls.o $(BENCH_SHARED) $(LIB) -o $@
+build/check build/calls: build/%: build/bench/%.o build/bench/timing.o build/bench/or.o $(SHARED) $(LIB)
+	$(CC) $(CFLAGS) $^ -o $@
 
 build/replaying: build/bench/replay.o build/bench/plain.o build/bench/others.o $(LIB)
-	$(CC) $(CFLAGS) $(filter %.o,$^) $(LIB) $(PHP_LIB) -o $@
+	$(CC) $(CFLAGS) $^ $(PHP_LIB) -o $@
 
-build/first: build/examples/first.o $(LIB)
-	$(CC) $(CFLAGS) build/examples/first.o $(LIB) -o $@
-
-build/editor: build/examples/editor.o $(LIB)
-	$(CC) $(CFLAGS) build/examples/editor.o $(LIB) -o $@
+build/first build/editor: build/%: build/examples/%.o $(LIB)
+	$(CC) $(CFLAGS) $^ -o $@
 
 test:
 	./test

@@ -8,9 +8,9 @@
 #define _POSIX_C_SOURCE 199309L /* clock_gettime */
 
 #include "lensember.h"
-#include "model.h"
 #include "others.h"
 #include "plain.h"
+#include "records.h"
 
 #include <stdio.h>
 #include <stdlib.h>

@@ -7,7 +7,7 @@
 #ifndef TIMING_H
 #define TIMING_H
 
-#include "model.h"
+#include "records.h"
 
 extern uint64_t bits[MAX_CHUNKS * BIT_WORDS];
 extern uint32_t words[MAX_CHUNKS * PAGES];

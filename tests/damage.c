@@ -2,7 +2,7 @@
  * Tests of the record check and of fresh, through the C calls.
  *
  * Each answer of the library is compared with the independent check of
- * model.c. One line is printed for each named group, then the count of groups.
+ * records.c. One line is printed for each named group, then the count of groups.
  * Usage: damage [SEED]
  */
 #include "calls.h"

@@ -7,12 +7,12 @@
  * blocks. One line is printed for each named group, then the count of groups.
  * Usage: replays [SEED]
  */
+#include "bytes.h"
 #include "calls.h"
 #include "drafts.h"
 #include "draws.h"
 #include "groups.h"
 #include "known.h"
-#include "parts.h"
 #include "shapes.h"
 #include "stage.h"
 #include "trials.h"

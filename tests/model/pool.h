@@ -11,7 +11,7 @@
 #define POOL_H
 
 #include "book.h"
-#include "model.h"
+#include "records.h"
 
 #define PAGE_BYTES UINT64_C(4096)
 #define CHUNK_BYTES UINT64_C(2097152)

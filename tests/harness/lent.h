@@ -6,7 +6,7 @@
 #ifndef LENT_H
 #define LENT_H
 
-#include "model.h"
+#include "records.h"
 
 struct records lent_new(size_t c); /* all zero; ends the program if there is no memory */
 void lent_free(struct records *r);

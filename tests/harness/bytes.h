@@ -1,8 +1,8 @@
 /* Tests of bytes, the call for a block's part of an arena: part of replays. */
-#ifndef PARTS_H
-#define PARTS_H
+#ifndef BYTES_H
+#define BYTES_H
 
-#include "model.h"
+#include "records.h"
 #include "shapes.h"
 
 void test_parts(void);

@@ -3,7 +3,7 @@
 #define CALLS_H
 
 #include "lensember.h"
-#include "model.h"
+#include "records.h"
 
 uint64_t library_check(const struct records *r);
 uint64_t library_fresh(const struct records *r);

@@ -9,8 +9,8 @@
  * Also here: generators of sound pools for the tests and the benchmark. All
  * numbers are typed in from document 01, none comes from the library.
  */
-#ifndef MODEL_H
-#define MODEL_H
+#ifndef RECORDS_H
+#define RECORDS_H
 
 #include <stdbool.h>
 #include <stddef.h>

@@ -5,7 +5,7 @@
 #ifndef GROUPS_H
 #define GROUPS_H
 
-#include "model.h"
+#include "records.h"
 
 #define COUNT(array) (sizeof(array) / sizeof(array)[0])
 

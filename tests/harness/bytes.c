@@ -1,4 +1,4 @@
-#include "parts.h"
+#include "bytes.h"
 
 #include "calls.h"
 #include "draws.h"

@@ -1,4 +1,4 @@
-#include "model.h"
+#include "records.h"
 
 #include <string.h>
 

@@ -5,7 +5,7 @@
 #ifndef CASES_H
 #define CASES_H
 
-#include "model.h"
+#include "records.h"
 
 /* What a page of a sound chunk is; a case names those it applies to. */
 enum page_kind {

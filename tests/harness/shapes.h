@@ -2,7 +2,7 @@
 #ifndef SHAPES_H
 #define SHAPES_H
 
-#include "model.h"
+#include "records.h"
 
 /* Room for records of up to 18 chunks and one element, between guards. */
 enum { GUARD = 16, ROOM = 18 };
