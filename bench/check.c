@@ -6,6 +6,7 @@
  * With a gate the exit status is 1 when the highest ratio is above it.
  */
 #include "lensember.h"
+#include "recipes.h"
 #include "timing.h"
 
 #include <stdio.h>

@@ -6,7 +6,6 @@
 #include <stdlib.h>
 #include <string.h>
 
-struct rng rng;
 struct group group;
 
 static unsigned groups_passed, groups_failed;

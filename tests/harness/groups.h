@@ -1,16 +1,10 @@
-/*
- * What the test programs share: named groups of trials, of which one line each
- * is printed, and one source of random numbers.
- */
+/* What all test programs share: named groups of trials, of which one line each is printed. */
 #ifndef GROUPS_H
 #define GROUPS_H
 
-#include "records.h"
+#include "random.h"
 
-#define COUNT(array) (sizeof(array) / sizeof(array)[0])
-
-/* Seeded by program_begin. */
-extern struct rng rng;
+#include <stdbool.h>
 
 /* The group under way. A test counts its trials itself. */
 struct group {
@@ -20,7 +14,7 @@ struct group {
 };
 extern struct group group;
 
-/* Reads the seed, if the command line has one, and prints it. */
+/* Seeds rng, by the command line if it has a number, and prints the seed. */
 void program_begin(int argc, char **argv);
 
 void group_begin(const char *family, const char *name);

@@ -1,6 +1,7 @@
 #include "shapes.h"
 
 #include "groups.h"
+#include "recipes.h"
 
 #include <inttypes.h>
 #include <stdio.h>

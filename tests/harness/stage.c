@@ -2,6 +2,7 @@
 
 #include "calls.h"
 #include "groups.h"
+#include "recipes.h"
 
 #include <inttypes.h>
 #include <stdio.h>

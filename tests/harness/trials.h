@@ -4,6 +4,7 @@
 
 #include "cases.h"
 #include "lent.h"
+#include "recipes.h"
 
 /*
  * A sound pool, the copy that is damaged and lent, and what was lent as it was

@@ -7,6 +7,7 @@
 
 #include "lent.h"
 #include "pool.h"
+#include "recipes.h"
 
 struct twin {
     struct records lent;  /* the library's */

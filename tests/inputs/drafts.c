@@ -1,8 +1,8 @@
 #include "drafts.h"
 
 #include "draws.h"
-#include "groups.h"
 #include "logs.h"
+#include "random.h"
 
 #include <string.h>
 

@@ -1,6 +1,6 @@
 #include "draws.h"
 
-#include "groups.h"
+#include "random.h"
 
 static uint64_t below(uint64_t limit)
 {

@@ -6,8 +6,7 @@
  * page word that claims to start a run, writes the records of that list from
  * scratch, and compares them with what was lent.
  *
- * Also here: generators of sound pools for the tests and the benchmark. All
- * numbers are typed in from document 01, none comes from the library.
+ * All numbers are typed in from document 01, none comes from the library.
  */
 #ifndef RECORDS_H
 #define RECORDS_H
@@ -42,7 +41,7 @@ struct records {
     uint64_t *slots;
 };
 
-/* One chunk's part of each buffer. */
+/* What one chunk has of each buffer. */
 struct chunk {
     uint64_t *bits;
     uint32_t *words;
@@ -91,33 +90,5 @@ bool model_write(const struct run_list *list, struct chunk out);
 bool model_chunk_sound(struct chunk lent);
 bool model_sound(const struct records *lent);
 unsigned model_check(const struct records *lent); /* 0 sound, 2 damaged */
-
-/* Random numbers that are the same for the same seed on every machine. */
-struct rng {
-    uint64_t state;
-};
-uint64_t rng_next(struct rng *rng);
-unsigned rng_below(struct rng *rng, unsigned limit);
-
-/* What a generated pool is made of. */
-enum fill { FILL_RANDOM, FILL_FULL, FILL_EMPTY, FILL_ANY };
-
-struct recipe {
-    const char *name;
-    unsigned free_share, large_share, class_share; /* how often each is put */
-    unsigned large_min, large_max;                 /* pages of a large run */
-    unsigned class_min, class_max;                 /* classes in use */
-    unsigned stretch;   /* up to so many of one sort in a row */
-    bool parade;        /* each chunk has every class, large runs and free pages */
-    enum fill fill;     /* which slots of a class run are taken */
-};
-
-extern const struct recipe recipes[];
-extern const size_t recipe_count;
-
-const struct recipe *recipe_named(const char *name); /* null if there is none */
-struct recipe recipe_of_class(unsigned class_number, enum fill fill);
-
-void generate(struct records *r, const struct recipe *recipe, struct rng *rng);
 
 #endif

@@ -1,0 +1,17 @@
+#include "random.h"
+
+struct rng rng;
+
+/* SplitMix64: any seed will do, 0 too. */
+uint64_t rng_next(struct rng *rng)
+{
+    uint64_t z = rng->state += UINT64_C(0x9E3779B97F4A7C15);
+    z = (z ^ (z >> 30)) * UINT64_C(0xBF58476D1CE4E5B9);
+    z = (z ^ (z >> 27)) * UINT64_C(0x94D049BB133111EB);
+    return z ^ (z >> 31);
+}
+
+unsigned rng_below(struct rng *rng, unsigned limit)
+{
+    return (unsigned)(rng_next(rng) % limit);
+}
