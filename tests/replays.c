@@ -3,7 +3,7 @@
  *
  * Each log is replayed by the library and by the independent reading of logs.c
  * on the independent pool of pool.c; refusal, position, all three buffers and
- * the lines are compared. The parts of blocks are compared with the book of
+ * the lines are compared. What bytes answers is compared with the book of
  * blocks. One line is printed for each named group, then the count of groups.
  * Usage: replays [SEED]
  */
@@ -502,7 +502,7 @@ static void expect_replays_refuse(uint64_t c, const struct records *r, struct le
 static void expect_shape_refused(uint64_t c, const struct records *r, struct lengths n)
 {
     expect_replays_refuse(c, r, n);
-    expect_part_refuses(1, c, r, n);
+    expect_bytes_refuse(1, c, r, n);
 }
 
 /* An empty log and no room for lines: their pointers need only be non-null. */
@@ -538,7 +538,7 @@ static void replay_on_damage(const struct trial_pools *pools, size_t chunk, unsi
     draft_any(c);
     try_draft(stages[c]);
     stage_try_lines(stages[c], draft.bytes, draft.length, room_for(draft.length) - 1);
-    expect_part_refuses(2, c, &pools->lent, exact_lengths(c));
+    expect_bytes_refuse(2, c, &pools->lent, exact_lengths(c));
     expect(lent_equal(&pools->lent, &pools->before),
            "c %zu chunk %zu page %u variant %u: a buffer was changed", c, chunk, page, variant);
 }
@@ -621,17 +621,17 @@ static void test_series(void)
 static void test_enough(void)
 {
     group_begin("log", "enough-of-each-answer");
-    group.trials = replay_tally.fields;
-    expect_least(replay_tally.fields, 300000, "fields");
-    expect_least(replay_tally.logs[0], 3000, "good logs");
-    expect_least(replay_tally.logs[8], 5000, "cut short");
-    expect_least(replay_tally.logs[9], 10000, "gone wrong");
-    expect_least(replay_tally.reserves[0], 100000, "served");
-    expect_least(replay_tally.reserves[3], 1000, "too big");
-    expect_least(replay_tally.reserves[4], 1000, "without room");
-    expect_least(replay_tally.releases[0], 30000, "released");
-    expect_least(replay_tally.releases[5], 5000, "at no block");
-    expect_least(replay_tally.releases[6], 1000, "at free slots");
+    group.trials = outcomes.fields;
+    expect_least(outcomes.fields, 300000, "fields");
+    expect_least(outcomes.logs[0], 3000, "good logs");
+    expect_least(outcomes.logs[8], 5000, "cut short");
+    expect_least(outcomes.logs[9], 10000, "gone wrong");
+    expect_least(outcomes.reserves[0], 100000, "served");
+    expect_least(outcomes.reserves[3], 1000, "too big");
+    expect_least(outcomes.reserves[4], 1000, "without room");
+    expect_least(outcomes.releases[0], 30000, "released");
+    expect_least(outcomes.releases[5], 5000, "at no block");
+    expect_least(outcomes.releases[6], 1000, "at free slots");
     group_end();
 }
 
@@ -654,7 +654,7 @@ int main(int argc, char **argv)
     test_longest_lines();
     test_vast_logs();
     test_series();
-    test_parts();
+    test_bytes();
     try_bad_shapes(expect_shape_refused);
     test_empty_log();
     test_damaged_records();

@@ -696,31 +696,31 @@ static unsigned long run_mixes(void)
 
 static void expect_enough_changes(void)
 {
-    expect_least(tally.reserve[0], 100000, "served");
-    expect_least(tally.reserve[3], 2000, "too big");
-    expect_least(tally.reserve[4], 2000, "without room");
-    expect_least(tally.release[0], 100000, "released");
-    expect_least(tally.release[5], 10000, "at no block");
-    expect_least(tally.release[6], 2000, "at free slots");
+    expect_least(answers.reserve[0], 100000, "served");
+    expect_least(answers.reserve[3], 2000, "too big");
+    expect_least(answers.reserve[4], 2000, "without room");
+    expect_least(answers.release[0], 100000, "released");
+    expect_least(answers.release[5], 10000, "at no block");
+    expect_least(answers.release[6], 2000, "at free slots");
 }
 
 static void expect_enough_reads(void)
 {
-    expect_least(tally.block_size[0], 20000, "sizes");
-    expect_least(tally.block_size[5], 4000, "sizes of no block");
-    expect_least(tally.block_size[6], 1000, "sizes of free slots");
-    expect_least(tally.next[0], 100000, "calls of next");
-    expect_least(tally.next_none, 10000, "without a block");
-    expect_least(tally.totals[0], 20000, "totals");
-    expect_least(tally.census[0], 10000, "censuses");
-    expect_least(tally.census[7], 6000, "in short rooms");
+    expect_least(answers.block_size[0], 20000, "sizes");
+    expect_least(answers.block_size[5], 4000, "sizes of no block");
+    expect_least(answers.block_size[6], 1000, "sizes of free slots");
+    expect_least(answers.next[0], 100000, "calls of next");
+    expect_least(answers.next_none, 10000, "without a block");
+    expect_least(answers.totals[0], 20000, "totals");
+    expect_least(answers.census[0], 10000, "censuses");
+    expect_least(answers.census[7], 6000, "in short rooms");
 }
 
 static void test_random_series(void)
 {
     unsigned long calls;
 
-    memset(&tally, 0, sizeof tally);
+    memset(&answers, 0, sizeof answers);
     calls = run_mixes();
     group_begin("random", "a-million-and-enough-of-each-answer");
     group.trials = calls;

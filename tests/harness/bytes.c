@@ -15,8 +15,8 @@ static size_t arena_of(const struct twin *twin)
 }
 
 /* From the book of blocks; only what is not in it is asked of the pool. */
-static struct lensember_part model_part(const struct twin *twin, uint64_t ear, uint64_t place,
-                                        size_t nleft, size_t nright)
+static struct lensember_part model_bytes(const struct twin *twin, uint64_t ear, uint64_t place,
+                                         size_t nleft, size_t nright)
 {
     size_t chosen = ear == 0 ? nleft : nright;
     const struct booked *block = book_from(&twin->model.live, place);
@@ -33,10 +33,10 @@ static struct lensember_part model_part(const struct twin *twin, uint64_t ear, u
     return part;
 }
 
-static struct lensember_part try_part(const struct twin *twin, uint64_t ear, uint64_t place,
-                                      size_t nleft, size_t nright)
+static struct lensember_part try_bytes(const struct twin *twin, uint64_t ear, uint64_t place,
+                                       size_t nleft, size_t nright)
 {
-    struct lensember_part right = model_part(twin, ear, place, nleft, nright);
+    struct lensember_part right = model_bytes(twin, ear, place, nleft, nright);
     struct lensember_part answer = library_bytes(ear, &twin->lent, place, nleft, nright);
 
     group.trials++;
@@ -80,8 +80,8 @@ static struct lensember_part try_ear(const struct twin *twin, uint64_t ear, uint
     size_t exact = arena_of(twin), other = any_length(twin);
 
     if (ear == 0)
-        return try_part(twin, 0, place, exact, other);
-    return try_part(twin, 1, place, other, exact);
+        return try_bytes(twin, 0, place, exact, other);
+    return try_bytes(twin, 1, place, other, exact);
 }
 
 /* ---- Pools ----------------------------------------------------------------------- */
@@ -98,7 +98,7 @@ static uint64_t expect_apart(const struct twin *twin, struct lensember_part part
     return last + 1;
 }
 
-static void parts_of_live_blocks(struct twin *twin)
+static void bytes_of_live_blocks(struct twin *twin)
 {
     unsigned long count = twin->model.live.count;
     unsigned long step = 1 + count * twin->model.c / 1500;
@@ -110,13 +110,13 @@ static void parts_of_live_blocks(struct twin *twin)
     }
 }
 
-static void parts_at_hostile_places(struct twin *twin)
+static void bytes_at_hostile_places(struct twin *twin)
 {
     for (unsigned i = 0; i < 120; i++)
         try_ear(twin, rng_below(&rng, 2), draw_hostile_place(&twin->model));
 }
 
-static void parts_of_other_ears(struct twin *twin)
+static void bytes_of_other_ears(struct twin *twin)
 {
     static const uint64_t ears[] = {
         2, 3, 255, 256, 257, UINT64_C(1) << 32, (UINT64_C(1) << 32) + 1, UINT64_C(1) << 63,
@@ -125,22 +125,22 @@ static void parts_of_other_ears(struct twin *twin)
     uint64_t place = draw_live_place(&twin->model);
 
     for (size_t i = 0; i < COUNT(ears); i++)
-        expect(try_part(twin, ears[i], place, exact, exact).refusal == 1, "ear");
+        expect(try_bytes(twin, ears[i], place, exact, exact).refusal == 1, "ear");
     for (uint64_t bit = 1; bit < 64; bit++)
-        try_part(twin, (UINT64_C(1) << bit) + rng_below(&rng, 2), place, exact, exact);
+        try_bytes(twin, (UINT64_C(1) << bit) + rng_below(&rng, 2), place, exact, exact);
 }
 
-static void parts_of_other_arenas(struct twin *twin)
+static void bytes_of_other_arenas(struct twin *twin)
 {
     for (unsigned i = 0; i < 100; i++) {
         uint64_t place = rng_below(&rng, 4) ? draw_live_place(&twin->model)
                                             : draw_hostile_place(&twin->model);
-        try_part(twin, rng_below(&rng, 2), place, any_length(twin), any_length(twin));
+        try_bytes(twin, rng_below(&rng, 2), place, any_length(twin), any_length(twin));
     }
 }
 
 /* All lengths that are near, and those of every other count of chunks. */
-static void parts_of_near_arenas(struct twin *twin)
+static void bytes_of_near_arenas(struct twin *twin)
 {
     uint64_t place = draw_live_place(&twin->model);
     size_t exact = arena_of(twin);
@@ -148,14 +148,14 @@ static void parts_of_near_arenas(struct twin *twin)
     for (size_t k = 0; k <= MAX_CHUNKS + 1; k++) {
         for (int off = -1; off <= 1; off++) {
             size_t length = k * CHUNK_BYTES + (size_t)off;
-            try_part(twin, 0, place, length, exact);
-            try_part(twin, 1, place, exact, length);
+            try_bytes(twin, 0, place, length, exact);
+            try_bytes(twin, 1, place, exact, length);
         }
     }
 }
 
 /* Of a block that has just been taken, then of the same place given back. */
-static void parts_in_series(struct twin *twin)
+static void bytes_in_series(struct twin *twin)
 {
     for (unsigned i = 0; i < 60; i++) {
         struct pool_reserved block =
@@ -205,15 +205,15 @@ static const struct {
     unsigned step; /* one recipe in so many */
     twin_test *run;
 } tests[] = {
-    {"live-blocks", 3, parts_of_live_blocks},
-    {"hostile-places", 3, parts_at_hostile_places},
-    {"ear-above-1", 7, parts_of_other_ears},
-    {"any-arenas", 3, parts_of_other_arenas},
-    {"near-arenas", 7, parts_of_near_arenas},
-    {"in-series", 5, parts_in_series},
+    {"live-blocks", 3, bytes_of_live_blocks},
+    {"hostile-places", 3, bytes_at_hostile_places},
+    {"ear-above-1", 7, bytes_of_other_ears},
+    {"any-arenas", 3, bytes_of_other_arenas},
+    {"near-arenas", 7, bytes_of_near_arenas},
+    {"in-series", 5, bytes_in_series},
 };
 
-void test_parts(void)
+void test_bytes(void)
 {
     test_sample();
     for (size_t i = 0; i < COUNT(tests); i++) {
@@ -225,7 +225,7 @@ void test_parts(void)
 
 /* ---- Refusals 1 and 2 --------------------------------------------------------- */
 
-void expect_part_refuses(uint64_t number, uint64_t c, const struct records *r, struct lengths n)
+void expect_bytes_refuse(uint64_t number, uint64_t c, const struct records *r, struct lengths n)
 {
     static const uint64_t places[] = {0, 4096, 4100, UINT64_C(1) << 25, UINT64_MAX};
     size_t arena = (size_t)(c * CHUNK_BYTES);

@@ -55,7 +55,7 @@ void expect_map(const struct pool *pool, size_t nlog)
     expect_written(map, (size_t)length, nlog);
 }
 
-/* ---- The picture's parts -------------------------------------------------------------- */
+/* ---- What a picture has --------------------------------------------------------------- */
 
 /* What a fill says. The first four are said of a page, the last of slots. */
 enum meaning { PAGE_0, FREE, LARGE, CLASS, TAKEN, MEANINGS };

@@ -1,4 +1,4 @@
-/* Tests of next, census and totals: part of the program series. */
+/* Tests of next, census and totals. The program series runs them. */
 #ifndef READERS_H
 #define READERS_H
 

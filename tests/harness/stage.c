@@ -11,7 +11,7 @@
 
 enum { BYTES_AROUND = 32 };
 
-struct replay_tally replay_tally;
+struct outcomes outcomes;
 
 struct stage *stage_new(size_t c)
 {
@@ -210,11 +210,11 @@ static void try_short_lines(struct stage *stage, const uint8_t *log, size_t nlog
 
 static void count_outcome(const struct log_outcome *outcome)
 {
-    replay_tally.fields += outcome->fields;
-    replay_tally.logs[outcome->refusal]++;
+    outcomes.fields += outcome->fields;
+    outcomes.logs[outcome->refusal]++;
     for (unsigned i = 0; i < CALL_ANSWERS; i++) {
-        replay_tally.reserves[i] += outcome->reserves[i];
-        replay_tally.releases[i] += outcome->releases[i];
+        outcomes.reserves[i] += outcome->reserves[i];
+        outcomes.releases[i] += outcome->releases[i];
     }
 }
 

@@ -49,11 +49,11 @@ struct log_outcome stage_try(struct stage *stage, const uint8_t *log, size_t nlo
 void stage_try_lines(struct stage *stage, const uint8_t *log, size_t nlog, size_t nout);
 
 /* All that was replayed, and how often each answer came. */
-struct replay_tally {
+struct outcomes {
     unsigned long fields;
     unsigned long logs[10]; /* by refusal */
     unsigned long reserves[CALL_ANSWERS], releases[CALL_ANSWERS];
 };
-extern struct replay_tally replay_tally;
+extern struct outcomes outcomes;
 
 #endif

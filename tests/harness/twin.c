@@ -10,7 +10,7 @@
 
 enum { CALLS_A_REVIEW = 256, WORDS_BEFORE_ROOM = 16 };
 
-struct tally tally;
+struct answers answers;
 
 static void free_rooms(struct twin *twin)
 {
@@ -148,7 +148,7 @@ struct pool_reserved twin_reserve(struct twin *twin, uint64_t size)
            " kind %" PRIu64 ", the model says %" PRIu64 " at %" PRIu64 " size %" PRIu64 " kind %d",
            twin->model.c, twin->calls, size, answer.refusal, answer.place, answer.size,
            answer.kind, right.refusal, right.place, right.size, (int)right.kind);
-    count_answer(tally.reserve, answer.refusal);
+    count_answer(answers.reserve, answer.refusal);
     compare_records(twin, "reserve", size);
     return right;
 }
@@ -161,7 +161,7 @@ uint64_t twin_release(struct twin *twin, uint64_t place)
     expect(answer == right,
            "c %zu call %lu, release %" PRIu64 ": answer %" PRIu64 ", the model says %" PRIu64,
            twin->model.c, twin->calls, place, answer, right);
-    count_answer(tally.release, answer);
+    count_answer(answers.release, answer);
     compare_records(twin, "release", place);
     return right;
 }
@@ -176,7 +176,7 @@ struct pool_sized twin_block_size(struct twin *twin, uint64_t place)
            ", the model says %" PRIu64 " size %" PRIu64,
            twin->model.c, twin->calls, place, answer.refusal, answer.size,
            right.refusal, right.size);
-    count_answer(tally.block_size, answer.refusal);
+    count_answer(answers.block_size, answer.refusal);
     twin->model.touched.pages = 0;
     compare_records(twin, "block size of", place);
     return right;
@@ -192,8 +192,8 @@ struct pool_found twin_next(struct twin *twin, uint64_t place)
            ", the model says at %" PRIu64 " size %" PRIu64,
            twin->model.c, twin->calls, place, answer.refusal, answer.place, answer.size,
            right.place, right.size);
-    count_answer(tally.next, answer.refusal);
-    tally.next_none += answer.refusal == 0 && answer.place == 0;
+    count_answer(answers.next, answer.refusal);
+    answers.next_none += answer.refusal == 0 && answer.place == 0;
     twin->model.touched.pages = 0;
     compare_records(twin, "next from", place);
     return right;
@@ -230,7 +230,7 @@ struct pool_counted twin_census(struct twin *twin, size_t nroom)
     expect(memcmp(twin->room + before, twin->listed + before, words * sizeof *twin->room) == 0,
            "c %zu call %lu, census in %zu words: the room is not what the model makes of it",
            twin->model.c, twin->calls, nroom);
-    count_answer(tally.census, answer.refusal);
+    count_answer(answers.census, answer.refusal);
     twin->model.touched.pages = 0;
     compare_records(twin, "census in words", nroom);
     return right;
@@ -258,7 +258,7 @@ struct pool_summed twin_totals(struct twin *twin)
            twin->model.c, twin->calls, answer.refusal, answer.blocks, answer.bytes,
            answer.free_pages, right.blocks, right.bytes, right.free_pages);
     compare_pages(twin, answer.free_pages);
-    count_answer(tally.totals, answer.refusal);
+    count_answer(answers.totals, answer.refusal);
     twin->model.touched.pages = 0;
     compare_records(twin, "totals", twin->model.c);
     return right;

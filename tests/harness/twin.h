@@ -46,11 +46,11 @@ struct pool_summed twin_totals(struct twin *twin);
 /* How often the library gave each answer, 0 to 7. Others count as 8. */
 enum { ANSWERS = 9 };
 
-struct tally {
+struct answers {
     unsigned long reserve[ANSWERS], release[ANSWERS], block_size[ANSWERS];
     unsigned long next[ANSWERS], census[ANSWERS], totals[ANSWERS];
     unsigned long next_none; /* no block at or above the place */
 };
-extern struct tally tally;
+extern struct answers answers;
 
 #endif

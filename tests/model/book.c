@@ -6,27 +6,27 @@
 #include <string.h>
 
 /* Half a mebibyte of the pool each; a place behind the last is no block's. */
-#define PART_BYTES (UINT64_C(1) << 19)
+#define SHEET_BYTES (UINT64_C(1) << 19)
 
-static struct book_part *part_of(struct book *book, uint64_t place)
+static struct book_sheet *sheet_of(struct book *book, uint64_t place)
 {
-    if (place >= BOOK_PARTS * PART_BYTES) {
+    if (place >= BOOK_SHEETS * SHEET_BYTES) {
         fprintf(stderr, "book: no pool has a block at %" PRIu64 "\n", place);
         exit(2);
     }
-    return &book->parts[place / PART_BYTES];
+    return &book->sheets[place / SHEET_BYTES];
 }
 
-/* How many blocks of a part lie below a place. */
-static size_t count_below(const struct book_part *part, uint64_t place)
+/* How many blocks of a sheet lie below a place. */
+static size_t count_below(const struct book_sheet *sheet, uint64_t place)
 {
-    size_t low = 0, high = part->count;
+    size_t low = 0, high = sheet->count;
 
-    if (high > 0 && part->blocks[high - 1].place < place)
+    if (high > 0 && sheet->blocks[high - 1].place < place)
         return high; /* most are put in by rising place */
     while (low < high) {
         size_t middle = low + (high - low) / 2;
-        if (part->blocks[middle].place < place)
+        if (sheet->blocks[middle].place < place)
             low = middle + 1;
         else
             high = middle;
@@ -34,13 +34,13 @@ static size_t count_below(const struct book_part *part, uint64_t place)
     return low;
 }
 
-static void make_space(struct book_part *part)
+static void make_space(struct book_sheet *sheet)
 {
-    if (part->count < part->space)
+    if (sheet->count < sheet->space)
         return;
-    part->space = part->space == 0 ? 16 : 2 * part->space;
-    part->blocks = realloc(part->blocks, part->space * sizeof *part->blocks);
-    if (part->blocks == NULL) {
+    sheet->space = sheet->space == 0 ? 16 : 2 * sheet->space;
+    sheet->blocks = realloc(sheet->blocks, sheet->space * sizeof *sheet->blocks);
+    if (sheet->blocks == NULL) {
         perror("book");
         exit(2);
     }
@@ -48,69 +48,69 @@ static void make_space(struct book_part *part)
 
 void book_put(struct book *book, uint64_t place, uint64_t size)
 {
-    struct book_part *part = part_of(book, place);
-    size_t at = count_below(part, place);
+    struct book_sheet *sheet = sheet_of(book, place);
+    size_t at = count_below(sheet, place);
     struct booked block = {place, size};
 
-    make_space(part);
-    memmove(part->blocks + at + 1, part->blocks + at,
-            (part->count - at) * sizeof *part->blocks);
-    part->blocks[at] = block;
-    part->count++;
+    make_space(sheet);
+    memmove(sheet->blocks + at + 1, sheet->blocks + at,
+            (sheet->count - at) * sizeof *sheet->blocks);
+    sheet->blocks[at] = block;
+    sheet->count++;
     book->count++;
     book->bytes += size;
 }
 
 void book_take(struct book *book, uint64_t place)
 {
-    struct book_part *part = part_of(book, place);
-    size_t at = count_below(part, place);
+    struct book_sheet *sheet = sheet_of(book, place);
+    size_t at = count_below(sheet, place);
 
-    if (at == part->count || part->blocks[at].place != place) {
+    if (at == sheet->count || sheet->blocks[at].place != place) {
         fprintf(stderr, "book: there is no block at %" PRIu64 "\n", place);
         exit(2);
     }
-    book->bytes -= part->blocks[at].size;
+    book->bytes -= sheet->blocks[at].size;
     book->count--;
-    part->count--;
-    memmove(part->blocks + at, part->blocks + at + 1,
-            (part->count - at) * sizeof *part->blocks);
+    sheet->count--;
+    memmove(sheet->blocks + at, sheet->blocks + at + 1,
+            (sheet->count - at) * sizeof *sheet->blocks);
 }
 
 void book_clear(struct book *book)
 {
-    for (size_t i = 0; i < BOOK_PARTS; i++)
-        free(book->parts[i].blocks);
+    for (size_t i = 0; i < BOOK_SHEETS; i++)
+        free(book->sheets[i].blocks);
     memset(book, 0, sizeof *book);
 }
 
 const struct booked *book_from(const struct book *book, uint64_t place)
 {
-    for (uint64_t i = place / PART_BYTES; i < BOOK_PARTS; i++) {
-        const struct book_part *part = &book->parts[i];
-        size_t at = count_below(part, place);
-        if (at < part->count)
-            return &part->blocks[at];
+    for (uint64_t i = place / SHEET_BYTES; i < BOOK_SHEETS; i++) {
+        const struct book_sheet *sheet = &book->sheets[i];
+        size_t at = count_below(sheet, place);
+        if (at < sheet->count)
+            return &sheet->blocks[at];
     }
     return NULL;
 }
 
 const struct booked *book_at(const struct book *book, unsigned long number)
 {
-    for (size_t i = 0; i < BOOK_PARTS; i++) {
-        if (number < book->parts[i].count)
-            return &book->parts[i].blocks[number];
-        number -= book->parts[i].count;
+    for (size_t i = 0; i < BOOK_SHEETS; i++) {
+        if (number < book->sheets[i].count)
+            return &book->sheets[i].blocks[number];
+        number -= book->sheets[i].count;
     }
     return NULL;
 }
 
 void book_copy(const struct book *book, uint64_t *out)
 {
-    for (size_t i = 0; i < BOOK_PARTS; i++) {
-        for (size_t n = 0; n < book->parts[i].count; n++) {
-            *out++ = book->parts[i].blocks[n].place;
-            *out++ = book->parts[i].blocks[n].size;
+    for (size_t i = 0; i < BOOK_SHEETS; i++) {
+        for (size_t n = 0; n < book->sheets[i].count; n++) {
+            *out++ = book->sheets[i].blocks[n].place;
+            *out++ = book->sheets[i].blocks[n].size;
         }
     }
 }

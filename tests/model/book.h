@@ -8,14 +8,14 @@
 #include <stddef.h>
 #include <stdint.h>
 
-/* Kept in parts by place, so that few blocks move when one is put in. */
-enum { BOOK_PARTS = 64 };
+/* Kept on sheets by place, so that few blocks move when one is put in. */
+enum { BOOK_SHEETS = 64 };
 
 struct booked {
     uint64_t place, size;
 };
 
-struct book_part {
+struct book_sheet {
     size_t count, space;
     struct booked *blocks; /* by rising place */
 };
@@ -23,7 +23,7 @@ struct book_part {
 struct book {
     unsigned long count;
     uint64_t bytes; /* of all blocks together */
-    struct book_part parts[BOOK_PARTS];
+    struct book_sheet sheets[BOOK_SHEETS];
 };
 
 /* A book starts as zero. Both end the program when they cannot be done. */

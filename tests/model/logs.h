@@ -2,7 +2,7 @@
  * An independent reading of document 01, "The request log".
  *
  * The log is first cut into pieces, by the lengths that are written in it and
- * whatever they say. Then the pieces are judged in turn, up to the first bad
+ * whatever they say. Then the pieces are looked at in turn, up to the first bad
  * one. Only then are those before it worked, on the pool of pool.c, and told
  * in lines.
  */
