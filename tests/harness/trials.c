@@ -32,16 +32,6 @@ static void copy_site_chunks(struct records *to, const struct records *from, siz
         chunk_copy(chunk_of(to, chunk + 1), chunk_of(from, chunk + 1));
 }
 
-static void shuffled_pages(unsigned order[PAGES])
-{
-    for (unsigned i = 0; i < PAGES; i++) {
-        unsigned j = rng_below(&rng, i + 1);
-        order[i] = i;
-        order[i] = order[j];
-        order[j] = i;
-    }
-}
-
 static unsigned smaller(unsigned a, unsigned b)
 {
     return a < b ? a : b;
@@ -57,7 +47,7 @@ static void try_in_chunk(const struct damage_case *way, struct trial_pools *pool
     unsigned at_page = one_page ? way->variants : smaller(way->variants, effort->variants);
 
     site_read(&site, &pools->lent, chunk);
-    shuffled_pages(order);
+    rng_order(&rng, order, PAGES);
     for (unsigned i = 0; i < PAGES; i++) {
         unsigned page = order[i];
         unsigned start = rng_below(&rng, way->variants);

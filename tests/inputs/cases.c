@@ -1,8 +1,8 @@
 #include "cases.h"
 
-#include <string.h>
+#include "random.h"
 
-#define COUNT(array) ((unsigned)(sizeof(array) / sizeof(array)[0]))
+#include <string.h>
 
 enum {
     AT_LARGE = AT_LARGE_FIRST | AT_LARGE_INNER,

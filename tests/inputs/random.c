@@ -15,3 +15,13 @@ unsigned rng_below(struct rng *rng, unsigned limit)
 {
     return (unsigned)(rng_next(rng) % limit);
 }
+
+void rng_order(struct rng *rng, unsigned order[], unsigned count)
+{
+    for (unsigned i = 0; i < count; i++) {
+        unsigned j = rng_below(rng, i + 1);
+        order[i] = i;
+        order[i] = order[j];
+        order[j] = i;
+    }
+}

@@ -103,12 +103,7 @@ static unsigned put_parade(struct run_list *list, unsigned page, struct rng *rng
 {
     unsigned order[CLASSES];
 
-    for (unsigned i = 0; i < CLASSES; i++) {
-        unsigned j = rng_below(rng, i + 1);
-        order[i] = i;
-        order[i] = order[j];
-        order[j] = i;
-    }
+    rng_order(rng, order, CLASSES);
     for (unsigned i = 0; i < CLASSES; i++) {
         page = put_class(list, page, order[i]);
         if (i % 3 == 1)
