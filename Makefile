@@ -4,9 +4,9 @@
 #                      build/liblensember.a, build/replay, build/map and
 #                      build/paint together
 #   make test          the one test command: proofs, then the host tests
-#   make host-test     the host tests alone: damage, series, replays, seeds,
-#                      program, maps, install, readme
-#   make program-test  of these program alone, which runs the replay program
+#   make host-test     the host tests alone, those that tests/programs.txt lists
+#   make NAME-test     one of these alone, by its name there
+#   make list-tests    their names, for ./test
 #   make long-test     random series only, COUNT calls of them (20,000,000), from
 #                      another SEED each time
 #   make php-test      the library beside PHP's own allocator; installs Debian's
@@ -140,19 +140,32 @@ build/first build/editor: build/%: build/examples/%.o $(LIB)
 test:
 	./test
 
-host-test: build/damage build/series build/replays build/seeds build/program build/maps all
-	build/damage
-	build/series
-	build/replays
+# The host tests by their list. A name in it that has no rule here is an error.
+TESTS := $(shell sed -n 's/^\([[:alpha:]][^: ]*\).*/\1/p' tests/programs.txt)
+
+host-test: all $(TESTS:%=%-test)
+
+list-tests:
+	@echo $(TESTS)
+
+damage-test series-test replays-test: %-test: build/%
+	build/$*
+
+seeds-test: build/seeds
 	build/seeds fuzz/seeds/*
-	build/program $(PROGRAM)
-	build/maps build/map build/paint
-	cmp docs/pagemap.svg crates/painter/stdout
-	CC='$(CC)' LIB='$(LIB)' PROGRAM='$(PROGRAM)' tests/install.sh
-	tests/readme.sh
 
 program-test: build/program $(PROGRAM)
 	build/program $(PROGRAM)
+
+maps-test: build/maps build/map build/paint
+	build/maps build/map build/paint
+	cmp docs/pagemap.svg crates/painter/stdout
+
+install-test: all
+	CC='$(CC)' LIB='$(LIB)' PROGRAM='$(PROGRAM)' tests/install.sh
+
+readme-test: all
+	tests/readme.sh
 
 COUNT ?= 20000000
 SEED ?= $(shell date +%s)
@@ -217,7 +230,7 @@ uninstall:
 clean:
 	rm -rf build
 
-.PHONY: all test host-test program-test long-test php-test fuzz bench run map picture first editor
+.PHONY: all test host-test list-tests long-test php-test fuzz bench run map picture first editor
 .PHONY: install uninstall clean
 .PHONY: build/damage build/series build/replays build/seeds build/boundary build/php
 .PHONY: build/check build/calls build/replaying build/first build/editor
