@@ -21,7 +21,7 @@
 #                      over the same records; GATE=1.5 makes it fail when the
 #                      check is above that ratio; then replays, against a plain
 #                      pool, malloc, and PHP's allocator where it is installed
-#   make run           replays examples/sample.log, document 01's sample
+#   make run           replays examples/sample.log, the sample of RULES 12.3
 #   make map           replays examples/map.log and draws the pool after it
 #   make picture       the same as an SVG picture, build/pagemap.svg
 #   make first         builds and runs examples/first.c

@@ -55,7 +55,7 @@ static void test_sound_pools(void)
     group_end();
 }
 
-/* The records after the sample log of document 01, "The request log". */
+/* The records after the sample log (RULES 12.3). */
 static void test_sample(void)
 {
     struct trial_pools pools = pools_new(1);

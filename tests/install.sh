@@ -125,7 +125,7 @@ END
 
 # ---- The programs ----------------------------------------------------------------
 
-# Document 01's log; its lines are those that the gate holds the program to.
+# The sample log (RULES 12.3); its lines are those that the gate holds the program to.
 replays_sample() {
     "$prefix/bin/lensember-replay" <examples/sample.log >"$work/lines" &&
         diff crates/replayer/stdout "$work/lines"

@@ -1,7 +1,7 @@
 /*
  * The library beside PHP's own memory manager, as Debian's libphp-embed has it.
  * Each request is put to a pool and to a heap of zend_alloc, and the answers
- * are compared where document 01 keeps PHP's rules:
+ * are compared where the rules (docs/RULES.md) are PHP's:
  *
  *   - the size given, for every request from 0 to 2,093,056 bytes;
  *   - the place of every run of pages, large runs and runs of slots alike, while

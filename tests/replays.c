@@ -525,7 +525,7 @@ static void test_empty_log(void)
     lent_free(&right);
 }
 
-/* "fresh and replay don't [check], and never answer 2"; bytes does. */
+/* Fresh and replay never answer 2 (RULES 4.2); bytes does. */
 static void replay_on_damage(const struct trial_pools *pools, size_t chunk, unsigned page,
                              unsigned variant)
 {

@@ -2,7 +2,7 @@
  * Tests of all calls on an existing pool, through the C calls.
  *
  * Each answer, and after each call all three buffers, are compared with the
- * independent pool of pool.c; document 01's samples with its own numbers too.
+ * independent pool of pool.c; the samples (RULES 12) with their own numbers too.
  * One line is printed for each named group, then the count of groups.
  * Usage: series [SEED [CALLS]]
  * With a number of calls only the long random series are made, in rounds, until
@@ -21,7 +21,7 @@
 #include <stdlib.h>
 #include <string.h>
 
-/* ---- The samples of document 01 -------------------------------------------- */
+/* ---- The samples (RULES 12) ------------------------------------------------ */
 
 static void expect_served(struct twin *twin, uint64_t size, uint64_t place, uint64_t given)
 {
@@ -104,7 +104,7 @@ static void sample_last_row(struct twin *twin)
     expect_release(twin, 4096 + 4056, 6);
 }
 
-/* The sample of "The request log". */
+/* The sample log (RULES 12.3). */
 static void sample_log(struct twin *twin)
 {
     expect_served(twin, 24, 4096, 24);

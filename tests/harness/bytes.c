@@ -173,7 +173,7 @@ static void bytes_in_series(struct twin *twin)
     }
 }
 
-/* The blocks of document 01's sample, and the places around them. */
+/* The blocks of the sample log (RULES 12.3), and the places around them. */
 static void test_sample(void)
 {
     static const uint64_t rows[][3] = {

@@ -41,7 +41,7 @@ extern struct ran ran;
 /* Runs the program once; what came of it stands in `ran`. */
 void run_program(const char *path, const struct feed *feed, enum sink sink);
 
-/* No status is asked for: document 01 names none. */
+/* No status is asked for: none is promised (RULES 9.3). */
 void expect_ended(const char *what, size_t number);
 
 /* Runs the program where its output fails: that is told on standard error, in whole lines. */

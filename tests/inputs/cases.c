@@ -367,7 +367,7 @@ static bool slot_word_behind(struct site *site, unsigned page, unsigned word)
     return true;
 }
 
-/* Document 01, "Slips that look right": 171 slots of 24 bytes. */
+/* RULES 12.4, "Slips that look right": 171 slots of 24 bytes. */
 static bool slot_170_of_class_2(struct site *site, unsigned page, unsigned variant)
 {
     (void)variant;

@@ -1,5 +1,5 @@
 /*
- * Every way in which document 01, "The lent records", can be broken, each by
+ * Every way in which RULES 3.5, "Sound records", can be broken, each by
  * name and each done to one page of one chunk at a time.
  */
 #ifndef CASES_H

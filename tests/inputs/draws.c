@@ -221,7 +221,7 @@ static uint64_t inside_slot(const struct pool *pool)
 }
 
 /*
- * Document 01, "Slips that look right": a page of a run of several pages, and
+ * RULES 12.4, "Slips that look right": a page of a run of several pages, and
  * a whole number of slots behind the page's start, not the run's.
  */
 static uint64_t page_of_class_run(const struct pool *pool)

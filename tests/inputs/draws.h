@@ -24,7 +24,7 @@ uint64_t draw_next_place(const struct pool *pool);
 /* Words lent to a census: too few, just enough or more. */
 size_t draw_room(const struct pool *pool);
 
-/* Any of the places that document 01 names under refusals 5 and 6, and others. */
+/* Any of the places of refusals 5 and 6 (RULES 3.7), and others. */
 uint64_t draw_hostile_place(const struct pool *pool);
 
 #endif

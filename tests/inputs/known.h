@@ -13,7 +13,7 @@ struct known_log {
     const char *lines;
 };
 
-/* The first is the sample of document 01. */
+/* The first is the sample log (RULES 12.3). */
 extern const struct known_log known_logs[];
 extern const size_t known_log_count;
 

@@ -1,5 +1,5 @@
 /*
- * An independent reading of document 01, "The request log".
+ * An independent reading of RULES 7 to 9: the request log, its replay, its lines.
  *
  * The log is first cut into pieces, by the lengths that are written in it and
  * whatever they say. Then the pieces are looked at in turn, up to the first bad

@@ -1,5 +1,5 @@
 /*
- * An independent pool, written from document 01, "Taking and giving back".
+ * An independent pool, written from RULES 5 and 6.
  *
  * It keeps no bits and no page words: a chunk is a list of runs by rising
  * page, a run of slots has the set of those that are taken, and a gap is what

@@ -2,7 +2,7 @@
 
 #include <string.h>
 
-/* Document 01, "Numbers of the pool": size, slots, pages. */
+/* RULES 2.1: size, slots, pages. */
 const struct size_class size_classes[CLASSES] = {
     {8, 512, 1},   {16, 256, 1},  {24, 170, 1},  {32, 128, 1},  {40, 102, 1},
     {48, 85, 1},   {56, 73, 1},   {64, 64, 1},   {80, 51, 1},   {96, 42, 1},

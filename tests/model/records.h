@@ -1,12 +1,12 @@
 /*
- * An independent reading of document 01, "The lent records".
+ * An independent reading of RULES 3, "Records".
  *
  * Records are sound exactly when they are what somebody would write down for
  * some list of runs. So the check does not follow the pages: it collects every
  * page word that claims to start a run, writes the records of that list from
  * scratch, and compares them with what was lent.
  *
- * All numbers are typed in from document 01, none comes from the library.
+ * All numbers are typed in from the rules, none comes from the library.
  */
 #ifndef RECORDS_H
 #define RECORDS_H
@@ -25,7 +25,7 @@ enum {
     MAX_CHUNKS = 16
 };
 
-/* Page words, document 01, "The lent records". */
+/* Page words (RULES 3.2). */
 #define WORD_FREE UINT32_C(0)
 #define WORD_PAGE_0 UINT32_C(0x40000001)
 #define WORD_LARGE(n) (UINT32_C(0x40000000) + (uint32_t)(n))

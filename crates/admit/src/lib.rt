@@ -308,7 +308,7 @@ fn pages_sound(bits: &[u64], words: &[u32], slots: &[u64], n: usize) -> bool
     left == 0
 }
 
-// Document 01's check of lent records: 1 no such pool, 2 damaged, 0 sound.
+// The check of lent records (RULES 4.2, 6.1): 1 no such pool, 2 damaged, 0 sound.
 pub fn admit(c: u64, bits: &[u64], words: &[u32], slots: &[u64]) -> u64
     ensures { λ r. ⌜ r ≡ admitOf c (before bits words slots) ⌝ }
 {

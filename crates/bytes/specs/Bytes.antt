@@ -1,4 +1,4 @@
--- Bytes (document 01, "Taking and giving back"): a block's part of one ear's arena. Assumes nothing.
+-- Bytes (RULES 6.6): a block's part of one ear's arena. Assumes nothing.
 use mathlib.Core.Bool.{Bool, cond, _&&_}
 use mathlib.Core.List.{List}
 use Prim.Native.Nat.{ℕ, _*_}

@@ -73,7 +73,7 @@ pub fn part_of(
     }
 }
 
-// Document 01's bytes: the block's part of the left or the right arena, or an empty one.
+// Bytes (RULES 6.6): the block's part of the left or the right arena, or an empty one.
 pub fn bytes<'a>(
     ear: u64,
     c: u64,

@@ -1,4 +1,4 @@
--- Census (document 01, "Taking and giving back"): place and size of each live block, and refusal 7. Assumes nothing.
+-- Census (RULES 6.4): place and size of each live block, and refusal 7. Assumes nothing.
 use mathlib.Core.Bool.{cond}
 use mathlib.Core.List.{List, [], _∷_}
 use Prim.Native.Nat.{ℕ, _*_}

@@ -116,7 +116,7 @@ pub fn census_sound(c: u64, bits: &[u64], words: &[u32], slots: &[u64], room: &m
     }
 }
 
-// Document 01's census: the count of the live blocks, or refusal 1, 2 or 7 and nothing is written.
+// Census (RULES 6.4): the count of the live blocks, or refusal 1, 2 or 7 and nothing is written.
 pub fn census(c: u64, bits: &[u64], words: &[u32], slots: &[u64], room: &mut [u64]) -> Counted
     ensures { λ r. ⌜ leaves r (now (room .exit)) ≡ censusOf c (before bits words slots) (now (room .entry)) ⌝ }
 {

@@ -1,4 +1,4 @@
--- The 30 size classes (document 01, "Numbers of the pool") and the class that serves a request.
+-- The 30 size classes (RULES 2) and the class that serves a request.
 -- Assumes nothing.
 use mathlib.Core.Bool.{cond}
 use mathlib.Core.List.{List, [], _∷_}

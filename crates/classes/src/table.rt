@@ -1,4 +1,4 @@
-// The class of each request size from 0 to 3,072 bytes: the smallest class that holds it (document 01, "Numbers of the pool").
+// The class of each request size from 0 to 3,072 bytes: the smallest class that holds it (RULES 2.2).
 // Behind the first and the last entry of each class stands its request size.
 ghost use mathlib.Core.Path.{_≡_};
 ghost use Rattle.classes.specs.Classes.{classFor, calculated, tabled};

@@ -42,7 +42,7 @@ fn fill32(words: &mut [u32], m: usize, v: u32)
     }
 }
 
-// Document 01's fresh call: 0, and the records of a pool of c chunks in which only each chunk's page 0 is taken; or 1, and nothing is changed.
+// Fresh (RULES 5.1): 0, and the records of a pool of c chunks in which only each chunk's page 0 is taken; or 1, and nothing is changed.
 pub fn fresh(c: u64, bits: &mut [u64], words: &mut [u32], slots: &mut [u64]) -> u64
     ensures { λ r. ⌜ leaves r (after bits words slots) ≡ freshOf c (before bits words slots) ⌝ }
 {

@@ -1,4 +1,4 @@
--- The answer for a pool, in document 01's words, and what a caller that takes the pages wants of them.
+-- The answer for a pool, in the words of RULES 5.3, and what a caller that takes the pages wants of them.
 -- Assumes nothing.
 use mathlib.Core.Path.{_≡_, refl, ap, subst}
 use mathlib.Core.Logic.{⊎-elim}

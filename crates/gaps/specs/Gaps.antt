@@ -1,4 +1,4 @@
--- Finding n pages (document 01, "Taking and giving back"): the chunk with the lowest number that has a gap of at least n; in it, the
+-- Finding n pages (RULES 5.3): the chunk with the lowest number that has a gap of at least n; in it, the
 -- shortest such gap, the lower one on a tie; the run starts at the gap's first page. A gap is a longest stretch of free pages.
 -- Pages are counted through the pool, page p of chunk k as 512 * k + p, and bit g of the row of page bits is 1 where page g is taken.
 -- Assumes nothing.
@@ -113,7 +113,7 @@ pub record IsPlace (c : ℕ) (bits : List ℕ) (n g : ℕ) : Type 0 where
   pub is : IsBest bits chunk n best
   pub starts : best .at ≡ g
 
--- The claim: the list has the gaps of the chunk and nothing else, and the answer is document 01's.
+-- The claim: the list has the gaps of the chunk and nothing else, and the answer is that of RULES 5.3.
 pub record GapsMean : Type 0 where
   pub listed : (bits : List ℕ) (k : ℕ) (x : Gap) → List·Memᴰ x (gapsOf bits k) ↔ IsGap bits k x
   pub found : (c : ℕ) (bits : List ℕ) (n g : ℕ) → (findPages c bits n ≡ At g) ↔ IsPlace c bits n g

@@ -79,7 +79,7 @@ pub fn find_pages(c: usize, bits: &[u64], n: usize) -> Found
     Found::Nothing
 }
 
-// The search's definitions mean what document 01 says of gaps, both where pages are found and where none are. The answer itself says nothing.
+// The search's definitions mean what RULES 5.3 says of gaps, both where pages are found and where none are. The answer itself says nothing.
 pub fn gap_search() -> bool
     ensures { λ r. ⌜ GapsMean ⌝ }
 {

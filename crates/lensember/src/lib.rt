@@ -78,7 +78,7 @@ pub extern "C" fn lensember_check(c: u64, bits: &[u64], words: &[u32], slots: &[
     admit::admit(c, bits, words, slots)
 }
 
-// Document 01's fresh call: refusal 1, or 0.
+// Fresh (RULES 5.1): refusal 1, or 0.
 #[no_mangle]
 pub extern "C" fn lensember_fresh(
     c: u64,
@@ -91,7 +91,7 @@ pub extern "C" fn lensember_fresh(
     fresh::fresh(c, bits, words, slots)
 }
 
-// Document 01's reserve.
+// Reserve (RULES 5.2).
 #[no_mangle]
 pub extern "C" fn lensember_reserve(
     c: u64,
@@ -105,7 +105,7 @@ pub extern "C" fn lensember_reserve(
     flat_reserved(reserve::reserve(c, bits, words, slots, size))
 }
 
-// Document 01's release.
+// Release (RULES 5.4).
 #[no_mangle]
 pub extern "C" fn lensember_release(
     c: u64,
@@ -119,7 +119,7 @@ pub extern "C" fn lensember_release(
     release::release(c, bits, words, slots, place)
 }
 
-// Document 01's block size.
+// Block size (RULES 6.2).
 #[no_mangle]
 pub extern "C" fn lensember_block_size(
     c: u64,
@@ -133,7 +133,7 @@ pub extern "C" fn lensember_block_size(
     release::block_size(c, bits, words, slots, place)
 }
 
-// Document 01's next.
+// Next (RULES 6.3).
 #[no_mangle]
 pub extern "C" fn lensember_next(
     c: u64,
@@ -147,7 +147,7 @@ pub extern "C" fn lensember_next(
     next::next_live(c, bits, words, slots, place)
 }
 
-// Document 01's census.
+// Census (RULES 6.4).
 #[no_mangle]
 pub extern "C" fn lensember_census(
     c: u64,
@@ -161,7 +161,7 @@ pub extern "C" fn lensember_census(
     census::census(c, bits, words, slots, room)
 }
 
-// Document 01's totals.
+// Totals (RULES 6.5).
 #[no_mangle]
 pub extern "C" fn lensember_totals(
     c: u64,
@@ -174,7 +174,7 @@ pub extern "C" fn lensember_totals(
     totals::totals(c, bits, words, slots)
 }
 
-// Document 01's bytes, by the lengths of both arenas: where the part lies in the chosen one. A slice cannot be handed back to C.
+// Bytes (RULES 6.6), by the lengths of both arenas: where the part lies in the chosen one. A slice cannot be handed back to C.
 #[no_mangle]
 pub extern "C" fn lensember_bytes(
     c: u64,
@@ -191,7 +191,7 @@ pub extern "C" fn lensember_bytes(
     bytes::part_of(ear, c, bits, words, slots, place, nleft, nright)
 }
 
-// Document 01's replay of a request log.
+// Replay of a request log (RULES 8).
 #[no_mangle]
 pub extern "C" fn lensember_replay(
     c: u64,
@@ -205,7 +205,7 @@ pub extern "C" fn lensember_replay(
     replay::replay(c, bits, words, slots, log)
 }
 
-// The same, with the lines that document 01's program writes.
+// The same, with its lines (RULES 9.2).
 #[no_mangle]
 pub extern "C" fn lensember_lines(
     c: u64,

@@ -1,4 +1,4 @@
--- Next (document 01, "Taking and giving back"): the live block with the lowest place at or above a place. Assumes nothing.
+-- Next (RULES 6.3): the live block with the lowest place at or above a place. Assumes nothing.
 use mathlib.Core.Bool.{cond}
 use mathlib.Core.List.{List, [], _∷_}
 use Prim.Native.Nat.{ℕ}

@@ -154,7 +154,7 @@ pub fn next_sound(c: u64, bits: &[u64], words: &[u32], slots: &[u64], q: u64) ->
     found
 }
 
-// Document 01's next: the place and size of the live block with the lowest place at or above q, or none with place 0 and size 0.
+// Next (RULES 6.3): the place and size of the live block with the lowest place at or above q, or none with place 0 and size 0.
 pub fn next_live(c: u64, bits: &[u64], words: &[u32], slots: &[u64], q: u64) -> Next
     ensures { λ r. ⌜ r ≡ nextOf c (before bits words slots) q ⌝ }
 {

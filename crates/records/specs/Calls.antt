@@ -1,4 +1,4 @@
--- Refusals 1 and 2, what a call leaves, and the fresh call (document 01, "Refusal numbers", "Taking and giving back").
+-- Refusals 1 and 2, what a call leaves, and the fresh call (RULES 4, 5.1).
 -- Assumes nothing.
 use mathlib.Core.Bool.{Bool, cond, _&&_}
 use mathlib.Core.List.{List, [], _∷_, _++_}

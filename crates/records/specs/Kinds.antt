@@ -1,4 +1,4 @@
--- Pages: what a page's word means, and how a run is written (document 01, "The lent records", page words).
+-- Pages: what a page's word means, and how a run is written (RULES 3.2).
 -- Assumes nothing.
 use mathlib.Core.Bool.{Bool, true, false, cond}
 use mathlib.Core.List.{List, [], _∷_}

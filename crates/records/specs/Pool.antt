@@ -1,4 +1,4 @@
--- The lent records as one value, and what they say of each page and slot (document 01, "The lent records").
+-- The lent records as one value, and what they say of each page and slot (RULES 3.1).
 -- Pages are counted through the pool: page g is page g % 512 of chunk g / 512. Assumes nothing.
 use mathlib.Core.Bool.{Bool}
 use mathlib.Core.List.{List}

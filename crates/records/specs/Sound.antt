@@ -1,4 +1,4 @@
--- Sound records (document 01, "The lent records"): each chunk a row of free pages, large runs and class runs, each wholly inside
+-- Sound records (RULES 3.5): each chunk a row of free pages, large runs and class runs, each wholly inside
 -- the chunk and written exactly so, page bits agreeing, page 0 taken, no stray slot bit. Assumes nothing.
 use mathlib.Core.Bool.{Bool, true, false, cond, _&&_}
 use mathlib.Core.List.{List, [], _∷_}

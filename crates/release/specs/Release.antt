@@ -1,4 +1,4 @@
--- Release and block size (document 01, "Taking and giving back"): which block or slot starts at a place. Assumes nothing.
+-- Release and block size (RULES 5.4, 6.2): which block or slot starts at a place (RULES 3.7). Assumes nothing.
 use mathlib.Core.Bool.{Bool, true, false, cond}
 use mathlib.Core.List.{List}
 use Prim.Native.Nat.{ℕ, zero, suc, _+_, _-_, _*_, _/_, _%_}

@@ -142,7 +142,7 @@ pub fn release_sound(c: u64, bits: &mut [u64], words: &mut [u32], slots: &mut [u
     give_back(c, bits, words, slots, x)
 }
 
-// Document 01's release: 0, or refusal 1, 2, 5 or 6 and nothing is changed.
+// Release (RULES 5.4): 0, or refusal 1, 2, 5 or 6 and nothing is changed.
 pub fn release(c: u64, bits: &mut [u64], words: &mut [u32], slots: &mut [u64], q: u64) -> u64
     ensures { λ r. ⌜ leaves r (after bits words slots) ≡ releaseOf c (before bits words slots) q ⌝ }
 {
@@ -181,7 +181,7 @@ pub fn size_sound(c: u64, bits: &[u64], words: &[u32], slots: &[u64], q: u64) ->
     }
 }
 
-// Document 01's block size: the size given to the live block at the place q, or refusal 1, 2, 5 or 6.
+// Block size (RULES 6.2): the size given to the live block at the place q, or refusal 1, 2, 5 or 6.
 pub fn block_size(c: u64, bits: &[u64], words: &[u32], slots: &[u64], q: u64) -> Sized
     ensures { λ r. ⌜ r ≡ sizeOf c (before bits words slots) q ⌝ }
 {

@@ -1,4 +1,4 @@
--- What a reserve does to sound records, and that it finds what document 01 says. Assumes nothing.
+-- What a reserve does to sound records, and that it finds what RULES 5.2 says. Assumes nothing.
 use mathlib.Core.Path.{_≡_, refl, sym, ap, _∙_, subst}
 use mathlib.Core.Logic.{_≢_, _↔_, by-cases}
 use mathlib.Core.Bool.{Bool, true, false, false≢true}

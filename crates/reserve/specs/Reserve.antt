@@ -1,4 +1,4 @@
--- Reserve (document 01, "Taking and giving back"): what is looked for, what is stored, what is answered. Assumes nothing.
+-- Reserve (RULES 5.2): what is looked for, what is stored, what is answered. Assumes nothing.
 use mathlib.Core.Bool.{Bool, cond, _&&_}
 use mathlib.Core.List.{List}
 use Prim.Native.Nat.{ℕ, zero, suc, _+_, _-_, _*_, _/_}

@@ -310,7 +310,7 @@ pub fn reserve_sound(
     answer_of(x, bytes)
 }
 
-// Document 01's reserve of n bytes: what was given, or refusal 1, 2, 3 or 4 and nothing is changed.
+// Reserve of n bytes (RULES 5.2): what was given, or refusal 1, 2, 3 or 4 and nothing is changed.
 pub fn reserve(c: u64, bits: &mut [u64], words: &mut [u32], slots: &mut [u64], n: u64) -> Reserved
     ensures { λ r. ⌜ leaves r (after bits words slots) ≡ reserveOf c (before bits words slots) n ⌝ }
 {
@@ -326,7 +326,7 @@ pub fn reserve(c: u64, bits: &mut [u64], words: &mut [u32], slots: &mut [u64], n
     reserve_sound(c, bits, words, slots, n)
 }
 
-// What a reserve does to sound records, and that it finds what document 01 says.
+// What a reserve does to sound records, and that it finds what RULES 5.2 says.
 pub fn reserve_keeps() -> bool
     ensures { λ r. ⌜ ReserveMeans ⌝ }
 {

@@ -1,4 +1,4 @@
--- The bench samples (document 01, "Bench samples") that are proved together, as rows under one claim.
+-- The samples of classes and gaps (RULES 12.1), as rows under one claim.
 -- Assumes nothing.
 use mathlib.Core.Path.{_≡_}
 use mathlib.Core.List.{List, [], _∷_}

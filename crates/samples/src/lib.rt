@@ -1,4 +1,4 @@
-// The bench samples (document 01, "Bench samples"), proved as rows under one claim.
+// The samples of classes and gaps (RULES 12.1), proved as rows under one claim.
 ghost use Rattle.samples.specs.Samples.{samples, Each};
 
 // The claim is about the definitions that the library's calls keep to; the answer itself says nothing.

@@ -1,4 +1,4 @@
--- Demand 3 (document 01, "The book of demand 3"): after any series of calls on one pool the census lists the book, no two of its blocks
+-- Demand 3 (RULES 10): after any series of calls on one pool the census lists the book, no two of its blocks
 -- share a byte, and none touches the first page of a chunk. The series runs the definitions that the calls' own contracts cite.
 -- Assumes nothing.
 use mathlib.Core.Path.{_≡_}

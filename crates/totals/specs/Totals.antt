@@ -1,4 +1,4 @@
--- Totals (document 01, "Taking and giving back"): live blocks, bytes given, free pages. Assumes nothing.
+-- Totals (RULES 6.5): live blocks, bytes given, free pages. Assumes nothing.
 use mathlib.Core.List.{List, [], _∷_}
 use Prim.Native.Nat.{ℕ, zero, suc, _+_, _*_}
 use lib.ListN.{length}

@@ -118,7 +118,7 @@ pub fn totals_sound(c: u64, bits: &[u64], words: &[u32], slots: &[u64]) -> Sums
     }
 }
 
-// Document 01's totals, or refusal 1 or 2.
+// Totals (RULES 6.5), or refusal 1 or 2.
 pub fn totals(c: u64, bits: &[u64], words: &[u32], slots: &[u64]) -> Sums
     ensures { λ r. ⌜ r ≡ totalsOf c (before bits words slots) ⌝ }
 {

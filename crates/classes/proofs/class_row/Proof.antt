@@ -1,4 +1,4 @@
--- `classes::class_row` meets its contract: the constant rows are the document's rows.
+-- `classes::class_row` meets its contract: the constant rows are those of RULES 2.1.
 -- Assumes nothing.
 use borrow.Author.Needs.{needs}
 use Rattle.classes.specs.Classes.{rows, rowAt}
