@@ -58,7 +58,15 @@ pub fn part_of(
             size: 0,
         };
     }
-    let s = release::block_size(c, bits, words, slots, q);
+    let a = admit::admit(c, bits, words, slots);
+    if a != 0 {
+        return Part {
+            refusal: a,
+            start: 0,
+            size: 0,
+        };
+    }
+    let s = release::size_sound(c, bits, words, slots, q);
     if s.refusal != 0 {
         return Part {
             refusal: s.refusal,

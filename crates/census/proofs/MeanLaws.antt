@@ -1,6 +1,6 @@
 -- What a census answers and leaves in the room. Assumes nothing.
 use mathlib.Core.Path.{_≡_, refl, sym, ap, ap₂, _∙_}
-use mathlib.Core.Logic.{_≢_, by-cases}
+use mathlib.Core.Logic.{by-cases}
 use mathlib.Core.Bool.{true}
 use mathlib.Core.List.{List}
 use Prim.Native.Nat.{ℕ, zero, suc, _*_, _/_, _≤_, _<_}
@@ -44,10 +44,6 @@ module _ (c : ℕ) (p : Pool) (room : List ℕ) where
 -- ---- behind the check
 
 module _ (c : ℕ) (p : Pool) (room : List ℕ) (n : ℕ) (e : n ≡ admitOf c p) where
-  pub census-refused : n ≢ 0 → leaves (counted n 0) room ≡ censusOf c p room
-  unfolding censusOf
-  census-refused z = refused (admitOf c p) n (λ r. leaves (counted r 0) room) (list c p room) e z
-
   pub census-served : n ≡ 0 → {x : Left Counted (List ℕ)} → x ≡ list c p room → x ≡ censusOf c p room
   unfolding censusOf
   census-served z f = f ∙ served (admitOf c p) n (λ r. leaves (counted r 0) room) (list c p room) e z

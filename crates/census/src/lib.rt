@@ -10,7 +10,7 @@ ghost use Rattle.records.specs.Kinds.{slotsOf};
 ghost use Rattle.records.specs.Lent.{lent, before};
 ghost use Rattle.records.specs.Calls.{admitOf, leaves};
 ghost use Rattle.blocks.specs.Blocks.{block, pageBlocks, live};
-ghost use Rattle.census.specs.Census.{wordsFor, list, censusOf};
+ghost use Rattle.census.specs.Census.{wordsFor, list};
 ghost use Rattle.census.specs.Writes.{slotBlocks, NextTaken, Wrote};
 ghost use Rattle.census.specs.Means.{CensusMeans};
 
@@ -114,20 +114,6 @@ pub fn census_sound(c: u64, bits: &[u64], words: &[u32], slots: &[u64], room: &m
         refusal: 0,
         count: widths::wide64(n),
     }
-}
-
-// Census (RULES 6.4): the count of the live blocks, or refusal 1, 2 or 7 and nothing is written.
-pub fn census(c: u64, bits: &[u64], words: &[u32], slots: &[u64], room: &mut [u64]) -> Counted
-    ensures { λ r. ⌜ leaves r (now (room .exit)) ≡ censusOf c (before bits words slots) (now (room .entry)) ⌝ }
-{
-    let a = admit::admit(c, bits, words, slots);
-    if a != 0 {
-        return Counted {
-            refusal: a,
-            count: 0,
-        };
-    }
-    census_sound(c, bits, words, slots, room)
 }
 
 // What a census leaves in the room.

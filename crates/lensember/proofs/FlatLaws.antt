@@ -15,3 +15,8 @@ flat-as r e = ap (flat (r .refusal) (r .place) (r .size)) (sym e)
 pub reserved-as : {r : Reserved} {p : Pool} {y : Left Reserved Pool} (x : FlatReserved) → x ≡ flatReserved r → leaves r p ≡ y → leaves x p ≡ reservedOf y
 unfolding reservedOf
 reserved-as {r} {p} x e f = ap (λ (a : FlatReserved). leaves a p) e ∙ ap reservedOf f
+
+-- of an answer that is this one
+pub answer-as : {r s : Reserved} {p : Pool} {y : Left Reserved Pool} (x : FlatReserved) → x ≡ flatReserved r → r ≡ s → leaves s p ≡ y
+    → leaves x p ≡ reservedOf y
+answer-as x e f g = reserved-as x (e ∙ ap flatReserved f) g

@@ -1,4 +1,5 @@
-// The calls as C sees them (include/lensember.h): a slice crosses as a pointer and its number of elements, an answer as a plain struct.
+// The calls as C makes them (include/lensember.h): a slice crosses as a pointer and its number of elements, an answer as a plain struct.
+// Each call checks what it is lent, and then works by an inner function that needs no check.
 ghost use mathlib.Core.Path.{_≡_};
 ghost use Rattle.records.specs.Lent.{before, after};
 ghost use Rattle.records.specs.Calls.{admitOf, leaves, freshOf};
@@ -91,7 +92,7 @@ pub extern "C" fn lensember_fresh(
     fresh::fresh(c, bits, words, slots)
 }
 
-// Reserve (RULES 5.2).
+// Reserve (RULES 5.2): what was given, or refusal 1, 2, 3 or 4 and nothing is changed.
 #[no_mangle]
 pub extern "C" fn lensember_reserve(
     c: u64,
@@ -102,10 +103,14 @@ pub extern "C" fn lensember_reserve(
 ) -> FlatReserved
     ensures { λ r. ⌜ leaves r (after bits words slots) ≡ reservedOf (reserveOf c (before bits words slots) size) ⌝ }
 {
-    flat_reserved(reserve::reserve(c, bits, words, slots, size))
+    let a = admit::admit(c, bits, words, slots);
+    if a != 0 {
+        return flat_reserved(reserve::refused(a));
+    }
+    flat_reserved(reserve::reserve_sound(c, bits, words, slots, size))
 }
 
-// Release (RULES 5.4).
+// Release (RULES 5.4): 0, or refusal 1, 2, 5 or 6 and nothing is changed.
 #[no_mangle]
 pub extern "C" fn lensember_release(
     c: u64,
@@ -116,10 +121,14 @@ pub extern "C" fn lensember_release(
 ) -> u64
     ensures { λ r. ⌜ leaves r (after bits words slots) ≡ releaseOf c (before bits words slots) place ⌝ }
 {
-    release::release(c, bits, words, slots, place)
+    let a = admit::admit(c, bits, words, slots);
+    if a != 0 {
+        return a;
+    }
+    release::release_sound(c, bits, words, slots, place)
 }
 
-// Block size (RULES 6.2).
+// Block size (RULES 6.2): the size given to the live block at the place, or refusal 1, 2, 5 or 6.
 #[no_mangle]
 pub extern "C" fn lensember_block_size(
     c: u64,
@@ -130,10 +139,17 @@ pub extern "C" fn lensember_block_size(
 ) -> release::Sized
     ensures { λ r. ⌜ r ≡ sizeOf c (before bits words slots) place ⌝ }
 {
-    release::block_size(c, bits, words, slots, place)
+    let a = admit::admit(c, bits, words, slots);
+    if a != 0 {
+        return release::Sized {
+            refusal: a,
+            size: 0,
+        };
+    }
+    release::size_sound(c, bits, words, slots, place)
 }
 
-// Next (RULES 6.3).
+// Next (RULES 6.3): the live block with the lowest place at or above a place, or refusal 1 or 2.
 #[no_mangle]
 pub extern "C" fn lensember_next(
     c: u64,
@@ -144,10 +160,18 @@ pub extern "C" fn lensember_next(
 ) -> next::Next
     ensures { λ r. ⌜ r ≡ nextOf c (before bits words slots) place ⌝ }
 {
-    next::next_live(c, bits, words, slots, place)
+    let a = admit::admit(c, bits, words, slots);
+    if a != 0 {
+        return next::Next {
+            refusal: a,
+            place: 0,
+            size: 0,
+        };
+    }
+    next::answer_of(next::next_sound(c, bits, words, slots, place))
 }
 
-// Census (RULES 6.4).
+// Census (RULES 6.4): the count of the live blocks, or refusal 1, 2 or 7 and nothing is written.
 #[no_mangle]
 pub extern "C" fn lensember_census(
     c: u64,
@@ -158,10 +182,17 @@ pub extern "C" fn lensember_census(
 ) -> census::Counted
     ensures { λ r. ⌜ leaves r (now (room .exit)) ≡ censusOf c (before bits words slots) (now (room .entry)) ⌝ }
 {
-    census::census(c, bits, words, slots, room)
+    let a = admit::admit(c, bits, words, slots);
+    if a != 0 {
+        return census::Counted {
+            refusal: a,
+            count: 0,
+        };
+    }
+    census::census_sound(c, bits, words, slots, room)
 }
 
-// Totals (RULES 6.5).
+// Totals (RULES 6.5), or refusal 1 or 2.
 #[no_mangle]
 pub extern "C" fn lensember_totals(
     c: u64,
@@ -171,7 +202,16 @@ pub extern "C" fn lensember_totals(
 ) -> totals::Sums
     ensures { λ r. ⌜ r ≡ totalsOf c (before bits words slots) ⌝ }
 {
-    totals::totals(c, bits, words, slots)
+    let a = admit::admit(c, bits, words, slots);
+    if a != 0 {
+        return totals::Sums {
+            refusal: a,
+            blocks: 0,
+            bytes: 0,
+            free: 0,
+        };
+    }
+    totals::totals_sound(c, bits, words, slots)
 }
 
 // Bytes (RULES 6.6), by the lengths of both arenas: where the part lies in the chosen one. A slice cannot be handed back to C.

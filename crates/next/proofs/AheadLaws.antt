@@ -23,7 +23,7 @@ use Rattle.records.proofs.AdmitLaws.{admitted}
 use Rattle.blocks.specs.Blocks.{Block, slotBlock, flat, when, live, pageBlocks}
 use Rattle.blocks.proofs.FlatLaws.{flat-drop}
 use Rattle.blocks.proofs.PageLaws.{kind-blocks}
-use Rattle.next.specs.declared.Found.the-variants.{At, Nothing}
+use Rattle.next.specs.declared.First.the-variants.{At, Nothing}
 use Rattle.next.specs.declared.Begun.{Begun}
 use Rattle.next.specs.Next.{firstFrom}
 use Rattle.next.specs.Walk.{head, blocksFrom, rest, Ahead, begunAt}

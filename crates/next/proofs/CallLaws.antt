@@ -1,19 +1,13 @@
 -- What starts at a page, the slot of a place, and the call behind the check. Assumes nothing.
-use mathlib.Core.Path.{_≡_, sym, ap, ap₂, _∙_, subst}
-use mathlib.Core.Logic.{_≢_}
+use mathlib.Core.Path.{_≡_, ap, ap₂, _∙_, subst}
 use Prim.Native.Nat.{ℕ, suc, _+_, _-_, _/_, _<_}
-use Rattle.refusals.proofs.CallLaws.{refused, served}
 use Rattle.classes.specs.declared.Row.{Row}
 use Rattle.classes.specs.Classes.{rowAt, size, slots}
 use Rattle.classes.proofs.ClassLaws.{size-read, slots-read, cut-some}
 use Rattle.records.specs.declared.Kind.{Kind}
 use Rattle.records.specs.declared.Kind.the-variants.{Edge, Free, Damaged, Large, Class, Inner}
 use Rattle.records.specs.Pool.{Pool, kindAt}
-use Rattle.records.specs.Calls.{admitOf}
 use Rattle.records.proofs.KindLaws.{Bare}
-use Rattle.blocks.specs.Blocks.{live}
-use Rattle.next.specs.declared.Found.{Found}
-use Rattle.next.specs.Next.{firstFrom, answered, told, nextOf}
 use Rattle.next.specs.Walk.{Least, begun, begunAt}
 use Rattle.next.proofs.StartLaws.{least}
 
@@ -38,14 +32,3 @@ module _ (p : Pool) (g : ℕ) where
   begun-bare (Large k) h e = absurd h
   begun-bare (Class b) h e = absurd h
   begun-bare (Inner w) h e = ap begunAt e
-
--- ---- behind the check
-
-module _ (c : ℕ) (p : Pool) (q n : ℕ) (e : n ≡ admitOf c p) where
-  pub next-refused : n ≢ 0 → answered n 0 0 ≡ nextOf c p q
-  unfolding nextOf
-  next-refused z = refused (admitOf c p) n (λ r. answered r 0 0) (told (firstFrom q (live c p))) e z
-
-  pub next-served : n ≡ 0 → {x y : Found} → x ≡ y → x ≡ firstFrom q (live c p) → told y ≡ nextOf c p q
-  unfolding nextOf
-  next-served z f g = ap told (sym f ∙ g) ∙ served (admitOf c p) n (λ r. answered r 0 0) (told (firstFrom q (live c p))) e z

@@ -8,22 +8,22 @@ use native.Mathlib.Omega.{arith}
 use Rattle.records.proofs.Flags.{cond-le, cond-nle}
 use Rattle.blocks.specs.Blocks.{block, Block, live, Rising, stop, next}
 use Rattle.blocks.proofs.ApartLaws.{live-rising}
-use Rattle.next.specs.declared.Found.{Found}
-use Rattle.next.specs.declared.Found.the-variants.{At, Nothing}
+use Rattle.next.specs.declared.First.{First}
+use Rattle.next.specs.declared.First.the-variants.{At, Nothing}
 use Rattle.next.specs.Next.{firstFrom}
 use Rattle.next.specs.Means.{NextMeans}
 
 -- ---- what was found, taken apart
 
-abbrev isFound : Found → ℕ
-isFound (At y z) = 1
-isFound Nothing = 0
+abbrev isFirst : First → ℕ
+isFirst (At y z) = 1
+isFirst Nothing = 0
 
-abbrev placeOf : Found → ℕ
+abbrev placeOf : First → ℕ
 placeOf (At y z) = y
 placeOf Nothing = 0
 
-abbrev sizeOf : Found → ℕ
+abbrev sizeOf : First → ℕ
 sizeOf (At y z) = z
 sizeOf Nothing = 0
 
@@ -56,7 +56,7 @@ abbrev Lowest : ℕ → List Block → ℕ → ℕ → Type 0
 Lowest q l y z = List·Memᴰ (block y z) l × (q ≤ y) × ((x : Block) → List·Memᴰ x l → q ≤ x .place → y ≤ x .place)
 
 first-lowest : (q hi y z : ℕ) (l : List Block) (lo : ℕ) → Rising lo l hi → firstFrom q l ≡ At y z → Lowest q l y z
-first-lowest q hi y z [] lo r e = let u : _≡_ {A = ℕ} 0 1 = ap isFound (sym (first-empty q) ∙ e) in absurd (omega arith)
+first-lowest q hi y z [] lo r e = let u : _≡_ {A = ℕ} 0 1 = ap isFirst (sym (first-empty q) ∙ e) in absurd (omega arith)
 first-lowest q hi y z (b ∷ l) lo r e =
     by-cases (decLe q (b .place)) here (λ h. later (omega arith) (first-lowest q hi y z l (b .place + b .size) (rising-on r)))
   where
@@ -83,7 +83,7 @@ none-below : (q : ℕ) (l : List Block) → firstFrom q l ≡ Nothing → (x : B
 none-below q [] e x m = absurd (List·Memᴰ·not-nil m)
 none-below q (b ∷ l) e x m =
     by-cases (decLe q (b .place))
-    (λ h. let u : _≡_ {A = ℕ} 1 0 = ap isFound (sym (first-here q b l h) ∙ e) in absurd (omega arith))
+    (λ h. let u : _≡_ {A = ℕ} 1 0 = ap isFirst (sym (first-here q b l h) ∙ e) in absurd (omega arith))
     (λ h. let d : b .place < q = omega arith in
     ⊎-elim (λ p. let u = ap (λ (i : Block). i .place) p in omega arith)
     (λ n. none-below q l (sym (first-later q b l d) ∙ e) x n) (List·Memᴰ·cases-cons m))

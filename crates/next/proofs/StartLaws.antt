@@ -29,7 +29,7 @@ use Rattle.records.proofs.AdmitLaws.{admitted}
 use Rattle.blocks.specs.Blocks.{Block, slotBlock, flat, when, live, pageBlocks}
 use Rattle.blocks.proofs.FlatLaws.{flat-split}
 use Rattle.blocks.proofs.PageLaws.{kind-blocks}
-use Rattle.next.specs.declared.Found.the-variants.{Nothing}
+use Rattle.next.specs.declared.First.the-variants.{Nothing}
 use Rattle.next.specs.Next.{firstFrom}
 use Rattle.next.specs.Walk.{head, blocksFrom, rest, Ahead, Least, Started}
 use Rattle.next.proofs.ListLaws.{Skips, skip-nil, skip-flat, skip-all, Heads, head-nil, head-flat, head-all}

@@ -6,7 +6,7 @@ use Prim.Native.Nat.{ℕ, _≤_, _<_}
 use Rattle.records.specs.Pool.{Pool}
 use Rattle.blocks.specs.Blocks.{Block, block, live}
 use Rattle.blocks.specs.Stores.{Good}
-use Rattle.next.specs.declared.Found.the-variants.{At, Nothing}
+use Rattle.next.specs.declared.First.the-variants.{At, Nothing}
 use Rattle.next.specs.Next.{firstFrom}
 
 pub record NextMeans : Type 0 where

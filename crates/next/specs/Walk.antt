@@ -8,13 +8,13 @@ use Rattle.records.specs.declared.Kind.{Kind}
 use Rattle.records.specs.declared.Kind.the-variants.{Edge, Free, Damaged, Large, Class, Inner}
 use Rattle.records.specs.Pool.{Pool, kindAt, slotAt}
 use Rattle.blocks.specs.Blocks.{Block, slotBlock, runBlock, flat, when, pageBlocks, live}
-use Rattle.next.specs.declared.Found.{Found}
-use Rattle.next.specs.declared.Found.the-variants.{At, Nothing}
+use Rattle.next.specs.declared.First.{First}
+use Rattle.next.specs.declared.First.the-variants.{At, Nothing}
 use Rattle.next.specs.declared.Begun.{Begun}
 use Rattle.next.specs.Next.{firstFrom}
 
 -- the first block of a list
-unfoldable pub head : List Block → Found
+unfoldable pub head : List Block → First
 head [] = Nothing
 head (b ∷ l) = At (b .place) (b .size)
 

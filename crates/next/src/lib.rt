@@ -6,12 +6,12 @@ ghost use Rattle.records.specs.Pool.{kindAt};
 ghost use Rattle.records.specs.Lent.{lent, before};
 ghost use Rattle.records.specs.Calls.{admitOf};
 ghost use Rattle.blocks.specs.Blocks.{live};
-ghost use Rattle.next.specs.Next.{firstFrom, nextOf};
+ghost use Rattle.next.specs.Next.{firstFrom, answerOf};
 ghost use Rattle.next.specs.Walk.{Least, Started, begunAt};
 ghost use Rattle.next.specs.Means.{NextMeans};
 
 // A block's place and size, or none.
-pub enum Found {
+pub enum First {
     At(u64, u64),
     Nothing,
 }
@@ -114,12 +114,12 @@ fn begun_at(c: u64, bits: &[u64], words: &[u32], slots: &[u64], g: usize) -> Beg
 
 // The search, on records that are sound: chunks, pages and slots from the place on, left at the first live block. Free pages and free
 // slots are passed a word at a time.
-pub fn next_sound(c: u64, bits: &[u64], words: &[u32], slots: &[u64], q: u64) -> Found
+pub fn next_sound(c: u64, bits: &[u64], words: &[u32], slots: &[u64], q: u64) -> First
     requires { ⌜ admitOf c (lent bits words slots) ≡ 0 ⌝ }
     ensures { λ r. ⌜ r ≡ firstFrom q (live c (before bits words slots)) ⌝ }
 {
     if 512 * c <= q / 4096 {
-        return Found::Nothing;
+        return First::Nothing;
     }
     let from = start_of(c, bits, words, slots, q as usize);
     let chunks = c as usize;
@@ -128,7 +128,7 @@ pub fn next_sound(c: u64, bits: &[u64], words: &[u32], slots: &[u64], q: u64) ->
     let mut slot = from.slot;
     let found = 'search: loop {
         if chunk == chunks {
-            break 'search Found::Nothing;
+            break 'search First::Nothing;
         }
         while page < 512 {
             let g = 512 * chunk + page;
@@ -136,12 +136,12 @@ pub fn next_sound(c: u64, bits: &[u64], words: &[u32], slots: &[u64], q: u64) ->
             let n = run.count;
             let z = run.size;
             if run.pages != 0 {
-                break 'search Found::At(widths::wide64(4096 * g), widths::wide64(4096 * run.pages));
+                break 'search First::At(widths::wide64(4096 * g), widths::wide64(4096 * run.pages));
             }
             while slot < n {
                 slot = bitrow::next_bit(slots, 512 * g + slot, 512 * g + n, true) - 512 * g;
                 if slot < n {
-                    break 'search Found::At(widths::wide64(4096 * g + slot * z), widths::wide64(z));
+                    break 'search First::At(widths::wide64(4096 * g + slot * z), widths::wide64(z));
                 }
             }
             page = bitrow::next_bit(bits, g + 1, 512 * chunk + 512, true) - 512 * chunk;
@@ -154,27 +154,19 @@ pub fn next_sound(c: u64, bits: &[u64], words: &[u32], slots: &[u64], q: u64) ->
     found
 }
 
-// Next (RULES 6.3): the place and size of the live block with the lowest place at or above q, or none with place 0 and size 0.
-pub fn next_live(c: u64, bits: &[u64], words: &[u32], slots: &[u64], q: u64) -> Next
-    ensures { λ r. ⌜ r ≡ nextOf c (before bits words slots) q ⌝ }
+// What is answered: none has place 0 and size 0.
+pub fn answer_of(x: First) -> Next
+    ensures { λ r. ⌜ r ≡ answerOf x ⌝ }
 {
-    let a = admit::admit(c, bits, words, slots);
-    if a != 0 {
-        return Next {
-            refusal: a,
-            place: 0,
-            size: 0,
-        };
-    }
-    match next_sound(c, bits, words, slots, q) {
-        Found::At(y, z) => {
+    match x {
+        First::At(y, z) => {
             return Next {
                 refusal: 0,
                 place: y,
                 size: z,
             };
         }
-        Found::Nothing => {
+        First::Nothing => {
             return Next {
                 refusal: 0,
                 place: 0,

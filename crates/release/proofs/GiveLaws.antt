@@ -169,10 +169,6 @@ leads-as c p q e h = subst (Leads c p q) e h
 -- ---- behind the check
 
 module _ (c : ℕ) (p : Pool) (q n : ℕ) (e : n ≡ admitOf c p) where
-  pub release-refused : n ≢ 0 → leaves n p ≡ releaseOf c p q
-  unfolding releaseOf
-  release-refused z = refused (admitOf c p) n (λ r. leaves r p) (give c p q) e z
-
   pub release-served : n ≡ 0 → {x : Left ℕ Pool} → x ≡ give c p q → x ≡ releaseOf c p q
   unfolding releaseOf
   release-served z f = f ∙ served (admitOf c p) n (λ r. leaves r p) (give c p q) e z

@@ -12,7 +12,7 @@ ghost use Rattle.records.specs.Kinds.{slotsOf, zeros};
 ghost use Rattle.records.specs.Lent.{lent, before, after};
 ghost use Rattle.records.specs.Calls.{admitOf, leaves};
 ghost use Rattle.release.specs.Means.{ReleaseMeans};
-ghost use Rattle.release.specs.Release.{slotSpot, spot, released, giveBack, give, releaseOf, sizeAt, sizeOf};
+ghost use Rattle.release.specs.Release.{slotSpot, spot, released, giveBack, give, sizeAt};
 ghost use Rattle.release.specs.Areas.{Leads, IsSpot};
 
 // What starts at a place: nothing, with the refusal's number; a large run of so many pages; a taken slot of a run.
@@ -142,17 +142,6 @@ pub fn release_sound(c: u64, bits: &mut [u64], words: &mut [u32], slots: &mut [u
     give_back(c, bits, words, slots, x)
 }
 
-// Release (RULES 5.4): 0, or refusal 1, 2, 5 or 6 and nothing is changed.
-pub fn release(c: u64, bits: &mut [u64], words: &mut [u32], slots: &mut [u64], q: u64) -> u64
-    ensures { λ r. ⌜ leaves r (after bits words slots) ≡ releaseOf c (before bits words slots) q ⌝ }
-{
-    let a = admit::admit(c, bits, words, slots);
-    if a != 0 {
-        return a;
-    }
-    release_sound(c, bits, words, slots, q)
-}
-
 // The size that was given to the block at the place q, on records that are sound.
 pub fn size_sound(c: u64, bits: &[u64], words: &[u32], slots: &[u64], q: u64) -> Sized
     requires { ⌜ admitOf c (lent bits words slots) ≡ 0 ⌝ }
@@ -179,20 +168,6 @@ pub fn size_sound(c: u64, bits: &[u64], words: &[u32], slots: &[u64], q: u64) ->
             };
         }
     }
-}
-
-// Block size (RULES 6.2): the size given to the live block at the place q, or refusal 1, 2, 5 or 6.
-pub fn block_size(c: u64, bits: &[u64], words: &[u32], slots: &[u64], q: u64) -> Sized
-    ensures { λ r. ⌜ r ≡ sizeOf c (before bits words slots) q ⌝ }
-{
-    let a = admit::admit(c, bits, words, slots);
-    if a != 0 {
-        return Sized {
-            refusal: a,
-            size: 0,
-        };
-    }
-    size_sound(c, bits, words, slots, q)
 }
 
 // What a release and block size do to sound records.

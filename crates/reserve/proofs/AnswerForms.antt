@@ -1,6 +1,5 @@
 -- The answer of a reserve, and the call behind the check, as the code makes them. Assumes nothing.
 use mathlib.Core.Path.{_≡_, sym, ap, ap₂, _∙_, subst}
-use mathlib.Core.Logic.{_≢_}
 use Prim.Native.Nat.{ℕ, _+_, _*_, _≤_, _<_}
 use native.Mathlib.Nat.{mul-le-mul}
 use native.Mathlib.Omega.{arith}
@@ -71,10 +70,6 @@ module _ (c : ℕ) (p : Pool) (n : ℕ) (x : Plan) (e : x ≡ plan c p n) where
       ap₂ (λ (a : Reserved) (b : Pool). leaves a b) f g ∙ ap (λ (y : Plan). leaves (answer y) (perform p y)) e
 
 module _ (c : ℕ) (p : Pool) (n a : ℕ) (e : a ≡ admitOf c p) where
-  pub reserve-refused : a ≢ 0 → leaves (reserve.refused a) p ≡ reserveOf c p n
-  unfolding reserveOf
-  reserve-refused z = refused (admitOf c p) a (λ r. leaves (reserve.refused r) p) (attempt c p n) e z
-
   pub reserve-served : a ≡ 0 → {x : Left Reserved Pool} → x ≡ attempt c p n → x ≡ reserveOf c p n
   unfolding reserveOf
   reserve-served z f = f ∙ served (admitOf c p) a (λ r. leaves (reserve.refused r) p) (attempt c p n) e z

@@ -11,7 +11,7 @@ ghost use Rattle.records.specs.declared.Kind.the-variants.{Large, Class};
 ghost use Rattle.records.specs.Kinds.{slotsOf, wordsOf};
 ghost use Rattle.records.specs.Lent.{lent, before, after};
 ghost use Rattle.records.specs.Calls.{admitOf, leaves};
-ghost use Rattle.reserve.specs.Reserve.{lowestFree, hasSlot, slotPage, planSlot, planRun, planLarge, plan, perform, slotGiven, answer, attempt, reserveOf};
+ghost use Rattle.reserve.specs.Reserve.{lowestFree, hasSlot, slotPage, planSlot, planRun, planLarge, plan, perform, slotGiven, answer, attempt, refused};
 ghost use Rattle.reserve.specs.Means.{ReserveMeans};
 ghost use Rattle.reserve.specs.Plans.{PlanOk, PlanLow, PlanSize};
 
@@ -217,6 +217,18 @@ pub fn perform_plan(c: u64, bits: &mut [u64], words: &mut [u32], slots: &mut [u6
     }
 }
 
+// Nothing is given.
+pub fn refused(r: u64) -> Reserved
+    ensures { λ x. ⌜ x ≡ refused r ⌝ }
+{
+    Reserved {
+        refusal: r,
+        place: 0,
+        size: 0,
+        kind: Given::None,
+    }
+}
+
 // Slot s of the run of class b at page g, of this size.
 pub fn slot_given(g: usize, b: usize, s: usize, bytes: u64) -> Reserved
     requires { ⌜ ((g < 8192) × (b < 30) × (s < 512)) × (bytes ≡ size b) ⌝ }
@@ -267,12 +279,7 @@ pub fn answer_of(x: Plan, bytes: u64) -> Reserved
 {
     match x {
         Plan::Refuse(r) => {
-            return Reserved {
-                refusal: r,
-                place: 0,
-                size: 0,
-                kind: Given::None,
-            };
+            return refused(r);
         }
         Plan::InRun(g, b, s) => {
             return slot_given(g, b, s, bytes);
@@ -308,22 +315,6 @@ pub fn reserve_sound(
     perform_plan(c, bits, words, slots, x);
     let bytes = plan_size(x);
     answer_of(x, bytes)
-}
-
-// Reserve of n bytes (RULES 5.2): what was given, or refusal 1, 2, 3 or 4 and nothing is changed.
-pub fn reserve(c: u64, bits: &mut [u64], words: &mut [u32], slots: &mut [u64], n: u64) -> Reserved
-    ensures { λ r. ⌜ leaves r (after bits words slots) ≡ reserveOf c (before bits words slots) n ⌝ }
-{
-    let a = admit::admit(c, bits, words, slots);
-    if a != 0 {
-        return Reserved {
-            refusal: a,
-            place: 0,
-            size: 0,
-            kind: Given::None,
-        };
-    }
-    reserve_sound(c, bits, words, slots, n)
 }
 
 // What a reserve does to sound records, and that it finds what RULES 5.2 says.

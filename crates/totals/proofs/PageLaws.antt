@@ -8,7 +8,7 @@ use Prim.Native.Nat.{ℕ, zero, suc, _+_, _*_, _/_, _%_, _≤_, _<_}
 use native.Mathlib.Decide.{ℕ-discrete}
 use native.Mathlib.Omega.{arith}
 use lib.ListN.{length}
-use Rattle.refusals.proofs.CallLaws.{refused, served}
+use Rattle.refusals.proofs.CallLaws.{served}
 use Rattle.bitrow.specs.Row.{digit, bitAt, isSet, countBits}
 use Rattle.records.specs.declared.Kind.{Kind}
 use Rattle.records.specs.declared.Kind.the-variants.{Edge, Free, Damaged, Large, Class, Inner}
@@ -72,10 +72,6 @@ totals-made c p m n k f e x y z w =
 
 -- behind the check
 module _ (c : ℕ) (p : Pool) (n : ℕ) (e : n ≡ admitOf c p) where
-  pub totals-refused : n ≢ 0 → totalled n 0 0 0 ≡ totalsOf c p
-  unfolding totalsOf
-  totals-refused z = refused (admitOf c p) n (λ r. totalled r 0 0 0) (tallied c p) e z
-
   pub totals-served : n ≡ 0 → {x : Sums} → x ≡ tallied c p → x ≡ totalsOf c p
   unfolding totalsOf
   totals-served z f = f ∙ served (admitOf c p) n (λ r. totalled r 0 0 0) (tallied c p) e z

@@ -8,7 +8,7 @@ ghost use Rattle.records.specs.Lent.{lent, before};
 ghost use Rattle.records.specs.Runs.{spanOf};
 ghost use Rattle.records.specs.Calls.{admitOf};
 ghost use Rattle.blocks.specs.Blocks.{blocksAt, live};
-ghost use Rattle.totals.specs.Totals.{tallyOf, tallied, totalsOf};
+ghost use Rattle.totals.specs.Totals.{tallyOf, tallied};
 ghost use Rattle.totals.specs.Rows.{classIn};
 ghost use Rattle.totals.specs.Means.{TotalsMean};
 
@@ -116,22 +116,6 @@ pub fn totals_sound(c: u64, bits: &[u64], words: &[u32], slots: &[u64]) -> Sums
         bytes: widths::wide64(t.bytes),
         free: widths::wide64(n - taken),
     }
-}
-
-// Totals (RULES 6.5), or refusal 1 or 2.
-pub fn totals(c: u64, bits: &[u64], words: &[u32], slots: &[u64]) -> Sums
-    ensures { λ r. ⌜ r ≡ totalsOf c (before bits words slots) ⌝ }
-{
-    let a = admit::admit(c, bits, words, slots);
-    if a != 0 {
-        return Sums {
-            refusal: a,
-            blocks: 0,
-            bytes: 0,
-            free: 0,
-        };
-    }
-    totals_sound(c, bits, words, slots)
 }
 
 // What the totals of sound records add up to.

@@ -2,7 +2,6 @@
 use Prim.Native.Nat.{_<_, _≤_}
 use Rattle.reserve.proofs.AnswerForms.{answer-as, low-as, size-of, large-is}
 use borrow.Author.Needs.{needs}
-use mathlib.Core.Path.{refl}
 use native.Mathlib.Omega.{arith}
 use Rattle.reserve.proofs.answer_of.Statement.{statement}
 use Rattle.reserve.proofs.answer_of.Tie as tie
@@ -10,8 +9,11 @@ use Rattle.reserve.proofs.answer_of.Tie as tie
 enum-known-x : tie.Need-enum-known-x
 enum-known-x c = search needs
 
+refused-requires : tie.Need-refused-requires
+refused-requires c κs = search needs
+
 returns : tie.Need-returns
-returns c = answer-as (c .before .x .given .1) refl
+returns c = answer-as (c .before .before .x .given .1) (c .refused .ensures)
 
 enum-known-x-2 : tie.Need-enum-known-x-2
 enum-known-x-2 c = search needs
@@ -43,14 +45,14 @@ wide64-requires c κs = search needs
 wide64-requires-2 : tie.Need-wide64-requires-2
 wide64-requires-2 c κs = search needs
 
-mul-t14 : tie.Need-mul-t14
-mul-t14 c =
+mul-t13 : tie.Need-mul-t13
+mul-t13 c =
     let f = c .before .before .before .before .before in
     let r : (_ < 8192) × (_ ≤ 511) = low-as (c .before .before .before .x4 .given .1) (f .pre .0) in let a = r .0 in let b = r .1 in
     let d = c .wide642 .ensures in let e = c .before .wide64 .ensures in record { fits = omega arith }
 
-mul-t15 : tie.Need-mul-t15
-mul-t15 c =
+mul-t14 : tie.Need-mul-t14
+mul-t14 c =
     let f = c .before .before .before .before .before in
     let r : (_ < 8192) × (_ ≤ 511) = low-as (c .before .before .before .x4 .given .1) (f .pre .0) in let a = r .0 in let b = r .1 in
     let d = c .wide642 .ensures in let e = c .before .wide64 .ensures in record { fits = omega arith }
@@ -63,6 +65,7 @@ answer-of-spec =
     tie.close
     (tie.spec
     enum-known-x
+    refused-requires
     returns
     enum-known-x-2
     slot-given-requires
@@ -73,6 +76,6 @@ answer-of-spec =
     enum-known-x-4
     wide64-requires
     wide64-requires-2
+    mul-t13
     mul-t14
-    mul-t15
     returns-4)
