@@ -12,10 +12,9 @@ use Rattle.classes.specs.Classes.{size, slots}
 use Rattle.classes.proofs.ClassLaws.{any-row}
 use Rattle.records.specs.declared.Kind.{Kind}
 use Rattle.records.specs.declared.Kind.the-variants.{Edge, Free, Damaged, Large, Class, Inner}
-use Rattle.records.specs.Kinds.{behind}
+use Rattle.records.specs.Kinds.{behind, spanOf}
 use Rattle.records.specs.Pool.{Pool, kindAt, slotAt}
 use Rattle.records.specs.Sound.{step}
-use Rattle.records.specs.Runs.{spanOf}
 use Rattle.records.proofs.WalkLaws.{walk, walk-next, sound-walks, step-inner}
 use Rattle.records.proofs.RunLaws.{begins-run, sound-runs}
 use Rattle.blocks.specs.Blocks.{Block, slotBlock, flat, when, blocksAt, live, pageBlocks, Ins, here, there, Rising, stop, next}

@@ -3,9 +3,9 @@
 use mathlib.Core.Bool.{Bool, true, false}
 use mathlib.Core.List.{List, [], _∷_, _++_}
 use Prim.Native.Nat.{ℕ, zero, suc, _+_, _*_, _≤_, _<_}
+use Rattle.records.specs.Kinds.{begins}
 use Rattle.classes.specs.Classes.{size, slots}
 use Rattle.records.specs.declared.Kind.{Kind}
-use Rattle.records.specs.declared.Kind.the-variants.{Edge, Free, Damaged, Large, Class, Inner}
 use Rattle.records.specs.Pool.{Pool, kindAt, slotAt}
 
 -- a block: its place and the size that was given
@@ -35,12 +35,7 @@ when false b = []
 
 -- the live blocks that begin in the run that starts at page g, by the page's kind and the taken slots
 abbrev pub blocksAt : ℕ → Kind → (ℕ → Bool) → List Block
-blocksAt g Edge taken = []
-blocksAt g Free taken = []
-blocksAt g Damaged taken = []
-blocksAt g (Large k) taken = runBlock g k ∷ []
-blocksAt g (Class b) taken = flat (λ s. when (taken s) (slotBlock g b s)) 0 (slots b)
-blocksAt g (Inner w) taken = []
+blocksAt g k taken = begins k [] (λ n. runBlock g n ∷ []) (λ b. flat (λ s. when (taken s) (slotBlock g b s)) 0 (slots b))
 
 -- the same, of a pool
 unfoldable pub pageBlocks : Pool → ℕ → List Block

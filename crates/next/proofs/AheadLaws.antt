@@ -6,6 +6,7 @@ use mathlib.Core.List.{List, [], _++_}
 use Prim.Native.Nat.{ℕ, zero, suc, _+_, _-_, _*_, _%_, _≤_, _<_}
 use native.Mathlib.Decide.{decLt}
 use native.Mathlib.Omega.{arith}
+use Rattle.records.specs.Kinds.{spanOf}
 use Rattle.bitrow.specs.Row.{bitAt, nextBit}
 use Rattle.bitrow.proofs.Rows.{First, first-at}
 use Rattle.bitrow.proofs.Marks.{one-set, zero-clear}
@@ -15,7 +16,6 @@ use Rattle.records.specs.declared.Kind.{Kind}
 use Rattle.records.specs.declared.Kind.the-variants.{Edge, Free, Damaged, Large, Class, Inner}
 use Rattle.records.specs.Pool.{Pool, kindAt, slotAt}
 use Rattle.records.specs.Calls.{admitOf}
-use Rattle.records.specs.Runs.{spanOf}
 use Rattle.records.proofs.WalkLaws.{sound-walks}
 use Rattle.records.proofs.RunLaws.{walk-run}
 use Rattle.records.proofs.WordLaws.{page-edge, page-free}

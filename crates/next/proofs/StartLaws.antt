@@ -16,11 +16,11 @@ use Rattle.classes.specs.Classes.{size, slots}
 use Rattle.classes.proofs.ClassLaws.{any-row}
 use Rattle.records.specs.declared.Kind.{Kind}
 use Rattle.records.specs.declared.Kind.the-variants.{Edge, Free, Damaged, Large, Class, Inner}
-use Rattle.records.specs.Kinds.{behind, innerWord, innerWords}
+use Rattle.records.specs.Kinds.{behind, innerWord, innerWords, spanOf}
 use Rattle.records.specs.Pool.{Pool, kindAt, slotAt}
 use Rattle.records.specs.Sound.{step, sound}
 use Rattle.records.specs.Calls.{admitOf}
-use Rattle.records.specs.Runs.{spanOf, InRun, LiesBy, Lies}
+use Rattle.records.specs.Runs.{InRun, LiesBy, Lies}
 use Rattle.records.proofs.KindLaws.{getD-inner}
 use Rattle.records.proofs.WalkLaws.{walk, sound-walks}
 use Rattle.records.proofs.RunLaws.{walk-run, class-at-low, sound-runs}

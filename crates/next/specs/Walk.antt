@@ -3,9 +3,9 @@ use mathlib.Core.Path.{_≡_}
 use mathlib.Core.Bool.{Bool}
 use mathlib.Core.List.{List, [], _∷_, _++_}
 use Prim.Native.Nat.{ℕ, zero, suc, _+_, _-_, _*_, _/_, _≤_, _<_}
+use Rattle.records.specs.Kinds.{begins}
 use Rattle.classes.specs.Classes.{size, slots}
 use Rattle.records.specs.declared.Kind.{Kind}
-use Rattle.records.specs.declared.Kind.the-variants.{Edge, Free, Damaged, Large, Class, Inner}
 use Rattle.records.specs.Pool.{Pool, kindAt, slotAt}
 use Rattle.blocks.specs.Blocks.{Block, slotBlock, runBlock, flat, when, pageBlocks, live}
 use Rattle.next.specs.declared.First.{First}
@@ -20,12 +20,7 @@ head (b ∷ l) = At (b .place) (b .size)
 
 -- the live blocks that begin in the run that starts at page g, of a class run those from slot s on
 abbrev pub blocksFrom : ℕ → ℕ → Kind → (ℕ → Bool) → List Block
-blocksFrom g s Edge taken = []
-blocksFrom g s Free taken = []
-blocksFrom g s Damaged taken = []
-blocksFrom g s (Large k) taken = runBlock g k ∷ []
-blocksFrom g s (Class b) taken = flat (λ i. when (taken i) (slotBlock g b i)) s (slots b - s)
-blocksFrom g s (Inner w) taken = []
+blocksFrom g s k taken = begins k [] (λ n. runBlock g n ∷ []) (λ b. flat (λ i. when (taken i) (slotBlock g b i)) s (slots b - s))
 
 -- the live blocks of n pages from page g on, of page g those from slot s on
 unfoldable pub rest : Pool → ℕ → ℕ → ℕ → List Block
@@ -52,9 +47,4 @@ abbrev pub begun : ℕ → ℕ → ℕ → Begun
 begun n s z = record { pages = n; count = s; size = z }
 
 abbrev pub begunAt : Kind → Begun
-begunAt Edge = begun 0 0 0
-begunAt Free = begun 0 0 0
-begunAt Damaged = begun 0 0 0
-begunAt (Large k) = begun (suc k) 0 0
-begunAt (Class b) = begun 0 (slots b) (size b)
-begunAt (Inner w) = begun 0 0 0
+begunAt k = begins k (begun 0 0 0) (λ n. begun (suc n) 0 0) (λ b. begun 0 (slots b) (size b))

@@ -12,10 +12,10 @@ use borrow.Author.Tests.{eq-eqb}
 use Rattle.bitrow.specs.Row.{isSet}
 use Rattle.records.specs.declared.Kind.{Kind}
 use Rattle.records.specs.declared.Kind.the-variants.{Edge, Free, Damaged, Large, Class, Inner}
-use Rattle.records.specs.Kinds.{innerWord, kindOf, behind}
+use Rattle.records.specs.Kinds.{innerWord, kindOf, behind, spanOf}
 use Rattle.records.specs.Pool.{Pool, isEdge, kindAt}
 use Rattle.records.specs.Sound.{step, sound}
-use Rattle.records.specs.Runs.{spanOf, InRun, LiesBy, Lies, Runs}
+use Rattle.records.specs.Runs.{InRun, LiesBy, Lies, Runs}
 use Rattle.records.proofs.Flags.{eq-cases, lt-cases, le-cases}
 use Rattle.records.proofs.KindLaws.{length-zeros, getD-zeros, length-inner, getD-inner}
 use Rattle.records.proofs.WordLaws.{page-inner}

@@ -61,20 +61,23 @@ wordsOf (Large k) = largeWord (suc k) ∷ zeros k
 wordsOf (Class b) = classWord b ∷ innerWords b 1 (behind b)
 wordsOf (Inner w) = []
 
+-- What a page begins: nothing, a large run with so many pages behind its first, or a run of a class. What depends on that goes by it
+abbrev pub begins : {A : Type 0} → Kind → A → (ℕ → A) → (ℕ → A) → A
+begins Edge none large class = none
+begins Free none large class = none
+begins Damaged none large class = none
+begins (Large k) none large class = large k
+begins (Class b) none large class = class b
+begins (Inner w) none large class = none
+
 -- the slots of the run that starts at a page
 abbrev pub slotsOf : Kind → ℕ
-slotsOf Edge = 0
-slotsOf Free = 0
-slotsOf Damaged = 0
-slotsOf (Large k) = 0
-slotsOf (Class b) = slots b
-slotsOf (Inner w) = 0
+slotsOf k = begins k 0 (λ n. 0) slots
 
 -- a run of class b starts at the page
 abbrev pub isRunOf : ℕ → Kind → Bool
-isRunOf b Edge = false
-isRunOf b Free = false
-isRunOf b Damaged = false
-isRunOf b (Large k) = false
-isRunOf b (Class d) = eqb d b
-isRunOf b (Inner w) = false
+isRunOf b k = begins k false (λ n. false) (λ d. eqb d b)
+
+-- the pages of the run that starts at a page; none where no run starts
+abbrev pub spanOf : Kind → ℕ
+spanOf k = begins k 0 suc (λ b. suc (behind b))

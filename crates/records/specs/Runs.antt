@@ -2,23 +2,14 @@
 use mathlib.Core.Path.{_≡_}
 use mathlib.Core.Logic.{_≢_}
 use mathlib.Core.Bool.{true}
-use Prim.Native.Nat.{ℕ, suc, _+_, _-_, _*_, _/_, _%_, _≤_, _<_}
+use Prim.Native.Nat.{ℕ, _+_, _-_, _*_, _/_, _%_, _≤_, _<_}
 use lib.ListN.{getD}
 use Rattle.records.specs.declared.Kind.{Kind}
 use Rattle.records.specs.declared.Kind.the-variants.{Edge, Free, Damaged, Large, Class, Inner}
-use Rattle.records.specs.Kinds.{innerWord, behind}
+use Rattle.records.specs.Kinds.{innerWord, spanOf}
 use Rattle.records.specs.Pool.{Pool, kindAt}
 use Rattle.records.specs.Sound.{sound}
 use Rattle.records.specs.Calls.{freshPool}
-
--- the pages of the run that starts at a page; none where no run starts
-abbrev pub spanOf : Kind → ℕ
-spanOf Edge = 0
-spanOf Free = 0
-spanOf Damaged = 0
-spanOf (Large k) = suc k
-spanOf (Class b) = suc (behind b)
-spanOf (Inner w) = 0
 
 -- page i is a page of the run that starts at page g
 pub record InRun (p : Pool) (g i : ℕ) : Type 0 where

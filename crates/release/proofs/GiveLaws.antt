@@ -15,10 +15,9 @@ use Rattle.bitrow.specs.Row.{isSet, putBit, putBits}
 use Rattle.classes.specs.Classes.{size, slots}
 use Rattle.records.specs.declared.Kind.{Kind}
 use Rattle.records.specs.declared.Kind.the-variants.{Edge, Free, Damaged, Large, Class, Inner}
-use Rattle.records.specs.Kinds.{zeros}
+use Rattle.records.specs.Kinds.{zeros, spanOf}
 use Rattle.records.specs.Pool.{Pool, pool, kindAt, slotAt}
 use Rattle.records.specs.Sound.{step, sound}
-use Rattle.records.specs.Runs.{spanOf}
 use Rattle.records.specs.Calls.{admitOf, Left, leaves}
 use Rattle.records.proofs.Flags.{eq-cases, lt-cases}
 use Rattle.records.proofs.KindLaws.{length-zeros, getD-zeros}

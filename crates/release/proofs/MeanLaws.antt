@@ -11,10 +11,10 @@ use Rattle.classes.specs.Classes.{size, slots}
 use Rattle.classes.proofs.ClassLaws.{any-row}
 use Rattle.records.specs.declared.Kind.{Kind}
 use Rattle.records.specs.declared.Kind.the-variants.{Large, Class}
-use Rattle.records.specs.Kinds.{zeros, behind}
+use Rattle.records.specs.Kinds.{zeros, behind, spanOf}
 use Rattle.records.specs.Pool.{Pool, kindAt, slotAt}
 use Rattle.records.specs.Calls.{admitOf, Left}
-use Rattle.records.specs.Runs.{spanOf, InRun}
+use Rattle.records.specs.Runs.{InRun}
 use Rattle.records.proofs.Flags.{cond-eq, cond-lt}
 use Rattle.blocks.specs.Blocks.{Block, slotBlock, runBlock}
 use Rattle.blocks.specs.Stores.{Good, Loses, putRun}

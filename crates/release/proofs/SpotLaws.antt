@@ -14,11 +14,11 @@ use Rattle.classes.specs.Classes.{size, slots}
 use Rattle.classes.proofs.ClassLaws.{Cut}
 use Rattle.records.specs.declared.Kind.{Kind}
 use Rattle.records.specs.declared.Kind.the-variants.{Edge, Free, Damaged, Large, Class, Inner}
-use Rattle.records.specs.Kinds.{innerWord, behind}
+use Rattle.records.specs.Kinds.{innerWord, behind, spanOf}
 use Rattle.records.specs.Pool.{Pool, kindAt}
 use Rattle.records.specs.Sound.{step, sound}
 use Rattle.records.specs.Calls.{admitOf}
-use Rattle.records.specs.Runs.{spanOf, InRun, Lies}
+use Rattle.records.specs.Runs.{InRun, Lies}
 use Rattle.records.proofs.Flags.{cond-eq, cond-ne, cond-lt, cond-nlt}
 use Rattle.records.proofs.KindLaws.{length-zeros, length-inner, getD-inner, Bare}
 use Rattle.records.proofs.WalkLaws.{walk, Home, sound-walks, walk-home}

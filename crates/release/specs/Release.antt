@@ -8,7 +8,7 @@ use Rattle.bitrow.specs.Row.{isSet}
 use Rattle.classes.specs.Classes.{size, slots}
 use Rattle.records.specs.declared.Kind.{Kind}
 use Rattle.records.specs.declared.Kind.the-variants.{Edge, Free, Damaged, Large, Class, Inner}
-use Rattle.records.specs.Kinds.{zeros}
+use Rattle.records.specs.Kinds.{zeros, begins}
 use Rattle.records.specs.Pool.{Pool, kindAt}
 use Rattle.records.specs.Calls.{admitOf, Left, leaves}
 use Rattle.blocks.specs.Stores.{putRun, putSlot}
@@ -42,12 +42,7 @@ slotSpot bits g b off =
 
 -- byte `off` of what starts at page g, by the page's kind
 abbrev pub spotIn : Pool → ℕ → ℕ → Kind → Spot
-spotIn p g off Edge = Nowhere noBlock
-spotIn p g off Free = Nowhere noBlock
-spotIn p g off Damaged = Nowhere noBlock
-spotIn p g off (Large k) = cond (eqb off 0) (Run g (suc k)) (Nowhere noBlock)
-spotIn p g off (Class b) = slotSpot (p .slots) g b off
-spotIn p g off (Inner w) = Nowhere noBlock
+spotIn p g off k = begins k (Nowhere noBlock) (λ n. cond (eqb off 0) (Run g (suc n)) (Nowhere noBlock)) (λ b. slotSpot (p .slots) g b off)
 
 abbrev pub spotFrom : Pool → ℕ → ℕ → Spot
 spotFrom p q g = spotIn p g (q - 4096 * g) (kindAt p g)

@@ -14,10 +14,9 @@ use Rattle.bitrow.specs.Row.{bitAt, isSet}
 use Rattle.classes.specs.Classes.{size, slots, pages}
 use Rattle.classes.proofs.ClassLaws.{any-row, row-facts}
 use Rattle.records.specs.declared.Kind.the-variants.{Large, Class}
-use Rattle.records.specs.Kinds.{wordsOf, behind, isRunOf}
+use Rattle.records.specs.Kinds.{wordsOf, behind, isRunOf, spanOf}
 use Rattle.records.specs.Pool.{Pool, kindAt, slotAt}
 use Rattle.records.specs.Calls.{Left}
-use Rattle.records.specs.Runs.{spanOf}
 use Rattle.records.proofs.Flags.{and-made, cond-lt, cond-nlt}
 use Rattle.records.proofs.RunLaws.{sound-runs}
 use Rattle.gaps.specs.declared.Found.{Found}

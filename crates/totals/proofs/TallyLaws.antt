@@ -18,9 +18,8 @@ use Rattle.classes.specs.Classes.{rowOf, rows, rowAt, size, slots}
 use Rattle.classes.proofs.ClassLaws.{any-row, size-read, slots-read}
 use Rattle.records.specs.declared.Kind.{Kind}
 use Rattle.records.specs.declared.Kind.the-variants.{Edge, Free, Damaged, Large, Class, Inner}
-use Rattle.records.specs.Kinds.{behind}
+use Rattle.records.specs.Kinds.{behind, spanOf}
 use Rattle.records.specs.Pool.{Pool, kindAt, slotAt}
-use Rattle.records.specs.Runs.{spanOf}
 use Rattle.records.specs.Calls.{admitOf}
 use Rattle.records.proofs.Kind.{the-type}
 use Rattle.records.proofs.KindLaws.{Bare}
@@ -86,26 +85,29 @@ module _ (ss : List ℕ) (g b : ℕ) where
 
 -- ---- the tally of a page, in the arm of a match that tells its kind
 
-module _ (g : ℕ) (k : Kind) where
-  pub tally-none : (taken : ℕ → Bool) → Bare k → tally 0 0 ≡ tallyOf (blocksAt g k taken)
-  unfolding tallyOf given
-  tally-none taken h = sym (ap tallyOf (bare-none g taken k h))
+module _ (ss : List ℕ) (g : ℕ) (k : Kind) where
+  abbrev taken : ℕ → Bool
+  taken i = isSet ss (512 * g + i)
 
-  pub tally-large : (taken : ℕ → Bool) (n : ℕ) → k ≡ Large n → tally 1 (4096 * (n + 1)) ≡ tallyOf (blocksAt g k taken)
+  pub tally-none : Bare k → tally 0 0 ≡ tallyOf (blocksAt g k taken)
   unfolding tallyOf given
-  tally-large taken n e =
+  tally-none h = sym (ap tallyOf (bare-none g taken k h))
+
+  pub tally-large : (n : ℕ) → k ≡ Large n → tally 1 (4096 * (n + 1)) ≡ tallyOf (blocksAt g k taken)
+  unfolding tallyOf given
+  tally-large n e =
       let r : 4096 * (n + 1) ≡ 4096 * suc n + 0 = omega arith in
       ap (tally 1) r ∙ sym (ap (λ (j : Kind). tallyOf (blocksAt g j taken)) e)
 
-  pub tally-class : (ss : List ℕ) (b : ℕ) {r : Row} {s n z : ℕ} → k ≡ Class b → r ≡ rowAt b → s ≡ r .slots → n ≡ countBits ss (512 * g) s → z ≡ r .size
-      → tally n (n * z) ≡ tallyOf (blocksAt g k (λ i. isSet ss (512 * g + i)))
+  pub tally-class : (b : ℕ) {r : Row} {s n z : ℕ} → k ≡ Class b → r ≡ rowAt b → s ≡ r .slots → n ≡ countBits ss (512 * g) s → z ≡ r .size
+      → tally n (n * z) ≡ tallyOf (blocksAt g k taken)
   unfolding tallyOf
-  tally-class ss b {n = n} {z = z} d e f h q =
+  tally-class b {n = n} {z = z} d e f h q =
       let count : n ≡ countBits ss (512 * g) (slots b) = h ∙ ap (countBits ss (512 * g)) (slots-read b e f) in
       let bytes : z ≡ size b = size-read b e q in
       ap₂ tally (count ∙ sym (slots-length ss g b 0 (slots b) (512 * g) (omega arith)))
       (ap₂ _*_ count bytes ∙ sym (slots-given ss g b 0 (slots b) (512 * g) (omega arith)))
-      ∙ sym (ap (λ (j : Kind). tallyOf (blocksAt g j (λ i. isSet ss (512 * g + i)))) d)
+      ∙ sym (ap (λ (j : Kind). tallyOf (blocksAt g j taken)) d)
 
 -- the row that was read for a kind is that of its class
 pub row-as : {k : Kind} {r : Row} (b : ℕ) → k ≡ Class b → r ≡ rowAt (classIn k) → r ≡ rowAt b

@@ -2,12 +2,12 @@
 use mathlib.Core.List.{List, [], _∷_}
 use Prim.Native.Nat.{ℕ, zero, suc, _+_, _*_}
 use lib.ListN.{length}
+use Rattle.records.specs.Kinds.{spanOf}
 use Rattle.refusals.specs.Refusals.{unless}
 use Rattle.records.specs.declared.Kind.{Kind}
 use Rattle.records.specs.declared.Kind.the-variants.{Edge, Free, Damaged, Large, Class, Inner}
 use Rattle.records.specs.Pool.{Pool, kindAt}
 use Rattle.records.specs.Calls.{admitOf}
-use Rattle.records.specs.Runs.{spanOf}
 use Rattle.blocks.specs.Blocks.{Block, live}
 use Rattle.totals.specs.declared.Tally.{Tally}
 use Rattle.totals.specs.declared.Sums.{Sums}

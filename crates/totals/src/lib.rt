@@ -2,10 +2,10 @@
 ghost use mathlib.Core.Path.{_≡_};
 ghost use Prim.Native.Nat.{_+_, _*_, _<_, _≤_};
 ghost use lib.ListN.{length};
+ghost use Rattle.records.specs.Kinds.{spanOf};
 ghost use Rattle.bitrow.specs.Row.{isSet};
 ghost use Rattle.classes.specs.Classes.{rowAt};
 ghost use Rattle.records.specs.Lent.{lent, before};
-ghost use Rattle.records.specs.Runs.{spanOf};
 ghost use Rattle.records.specs.Calls.{admitOf};
 ghost use Rattle.blocks.specs.Blocks.{blocksAt, live};
 ghost use Rattle.totals.specs.Totals.{tallyOf, tallied};

@@ -46,10 +46,10 @@ mul-t10 : tie.Need-mul-t10
 mul-t10 c = let m = large-few (c .before .k .given .1) (c .before .before .before .before .pre .2) in record { fits = omega arith }
 
 returns-2 : tie.Need-returns-2
-returns-2 c = tally-large _ _ _ _ (c .before .k .given .1)
+returns-2 c = tally-large (c .before .before .before .before .args .slots .now) _ _ _ (c .before .k .given .1)
 
 returns-3 : tie.Need-returns-3
-returns-3 c = tally-none _ (c .before .before .args .k) _ (others-bare (c .before .before .args .k) (c .match .keys3))
+returns-3 c = let d = c .before .before in tally-none (d .args .slots .now) _ (d .args .k) (others-bare (d .args .k) (c .match .keys3))
 
 pub page-tally-spec : {M : Type 1} → statement M
 page-tally-spec =
