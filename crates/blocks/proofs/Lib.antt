@@ -5,3 +5,4 @@ pub mod FlipLaws
 pub mod KeepLaws
 pub mod ApartLaws
 pub mod PageLaws
+pub mod StoreForms

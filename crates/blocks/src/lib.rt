@@ -1,6 +1,67 @@
-// The live blocks of a pool, and how each store changes them. Definitions in specs/, laws in proofs/.
+// The live blocks of a pool, and how each store changes them. Nobody else writes a slot bit or the words and bits of a run. Definitions in
+// specs/, laws in proofs/.
+ghost use mathlib.Core.Path.{_≡_};
+ghost use Prim.Native.Nat.{ℕ, suc, _+_, _*_, _<_, _≤_};
+ghost use lib.ListN.{length, getD};
+ghost use lib.Seq.{sets};
+ghost use Rattle.bitrow.specs.Row.{digit};
+ghost use Rattle.classes.specs.Classes.{pages};
+ghost use Rattle.records.specs.declared.Kind.the-variants.{Large, Class};
+ghost use Rattle.records.specs.Kinds.{zeros, wordsOf};
+ghost use Rattle.records.specs.Lent.{before, after};
+ghost use Rattle.blocks.specs.Stores.{putRun, putSlot};
 ghost use Rattle.blocks.specs.Keeps.{Keeps};
 ghost use Rattle.blocks.specs.Apart.{Apart};
+
+// Slot s of the run that starts at page g gets the slot bit v.
+pub fn put_slot(bits: &[u64], words: &mut [u32], slots: &mut [u64], g: usize, s: usize, v: bool)
+    requires { ⌜ (g < 8192) × (s < 512) × (512 * g + 512 ≤ 64 * length (now slots)) ⌝ }
+    ensures { λ _. ⌜ after bits words slots ≡ putSlot (digit v) (before bits words slots) g s ⌝ }
+{
+    bitrow::put_bit(slots, 512 * g + s, v);
+}
+
+// The words of a run of class b, of n pages, from page g on.
+fn class_words(words: &mut [u32], g: usize, b: usize, n: usize)
+    requires { ⌜ (g + n ≤ 8192) × (g + n ≤ length (now words)) × (b < 30) × (n ≡ pages b) ⌝ }
+    ensures { λ _. ⌜ now (words .exit) ≡ sets (now (words .entry)) g (wordsOf (Class b)) ⌝ }
+{
+    words[g] = records::class_word(b);
+    let mut k = 1;
+    while k < n {
+        words[g + k] = records::inner_word(b, k);
+        k += 1;
+    }
+}
+
+// A run of class b at page g.
+pub fn put_class(bits: &mut [u64], words: &mut [u32], slots: &[u64], g: usize, b: usize)
+    requires { ⌜ (b < 30) × (g + pages b ≤ 8192) × (g + pages b ≤ 64 * length (now bits)) × (g + pages b ≤ length (now words)) ⌝ }
+    ensures { λ _. ⌜ after bits words slots ≡ putRun 1 (before bits words slots) g (wordsOf (Class b)) ⌝ }
+{
+    let row = classes::class_row(b);
+    let n = widths::wide16(row.pages);
+    bitrow::put_bits(bits, g, n, true);
+    class_words(words, g, b, n);
+}
+
+// A large run at page g, with k pages behind it. These have the word 0 already, so only the first is written.
+pub fn put_large(bits: &mut [u64], words: &mut [u32], slots: &[u64], g: usize, k: usize)
+    requires { ⌜ (k < 511) × (g + suc k ≤ 8192) × (g + suc k ≤ 64 * length (now bits)) × (g + suc k ≤ length (now words)) × ((i : ℕ) → g < i → i < g + suc k → getD (now words) i 0 ≡ 0) ⌝ }
+    ensures { λ _. ⌜ after bits words slots ≡ putRun 1 (before bits words slots) g (wordsOf (Large k)) ⌝ }
+{
+    bitrow::put_bits(bits, g, k + 1, true);
+    words[g] = records::large_word(k + 1);
+}
+
+// The pages of a large run at page g, with k pages behind it, are free again. Only the first has a word to clear.
+pub fn free_large(bits: &mut [u64], words: &mut [u32], slots: &[u64], g: usize, k: usize)
+    requires { ⌜ (k < 511) × (g + suc k ≤ 8192) × (g + suc k ≤ 64 * length (now bits)) × (g + suc k ≤ length (now words)) × ((i : ℕ) → g < i → i < g + suc k → getD (now words) i 0 ≡ 0) ⌝ }
+    ensures { λ _. ⌜ after bits words slots ≡ putRun 0 (before bits words slots) g (zeros (suc k)) ⌝ }
+{
+    bitrow::put_bits(bits, g, k + 1, false);
+    words[g] = 0;
+}
 
 // Each store keeps a pool good and puts one block into its live blocks, or takes one out; fresh records hold none.
 pub fn stores_keep() -> bool

@@ -17,7 +17,7 @@ use Rattle.records.proofs.AdmitLaws.{admitted}
 use Rattle.blocks.specs.Stores.{putRun, putSlot}
 use Rattle.reserve.specs.declared.Reserved.{Reserved}
 use Rattle.reserve.specs.declared.Plan.{Plan}
-use Rattle.reserve.specs.declared.Plan.the-variants.{Refuse, InRun, NewRun, NewLarge}
+use Rattle.reserve.specs.declared.Plan.the-variants.{Refuse, TakeSlot, NewClass, NewLarge}
 use Rattle.reserve.specs.Reserve.{lowestFree, plan, perform, answer, attempt}
 use Rattle.reserve.specs.Plans.{PlanOk}
 use Rattle.reserve.proofs.AnswerForms.{plan-good}
@@ -65,15 +65,15 @@ module _ (c : ℕ) (p : Pool) (ok : admitOf c p ≡ 0) where
   slots-long : (x : Plan) → length (perform p x .slots) ≡ length (p .slots)
   unfolding putSlot putRun
   slots-long (Refuse r) = refl
-  slots-long (InRun g b s) = length-put-bit 1 (p .slots) (512 * g + s)
-  slots-long (NewRun g b) = length-put-bit 1 (p .slots) (512 * g + 0)
+  slots-long (TakeSlot g b s) = length-put-bit 1 (p .slots) (512 * g + s)
+  slots-long (NewClass g b) = length-put-bit 1 (p .slots) (512 * g + 0)
   slots-long (NewLarge g n) = refl
 
   near : (x : Plan) → PlanOk c p x → (n : ℕ) → n ≡ length (p .slots) → PlanNear n x
   near (Refuse r) k n e = tt
-  near (InRun g b s) k n e =
+  near (TakeSlot g b s) k n e =
       let h = admitted c p ok .shape in let i = k .inside in (omega arith, class-at-low p g b (k .kind), omega arith)
-  near (NewRun g b) (bl, k) n e =
+  near (NewClass g b) (bl, k) n e =
       let h = admitted c p ok .shape in let i = k .inside in let m = k .some in (omega arith, bl, omega arith)
   near (NewLarge g m) k n e = tt
 
@@ -115,5 +115,6 @@ module _ (b : ℕ) {rs : List Row} (e : rs ≡ rows) where
   unfolding rowAt
   row-slots f = f ∙ ap (λ (l : List Row). getD l b (rowOf 0 0 0) .slots) e
 
-pub put-long : (v : ℕ) (l : List ℕ) (i : ℕ) {m : List ℕ} → m ≡ putBit v l i → length m ≡ length l
-put-long v l i e = ap length e ∙ length-put-bit v l i
+pub put-long : (v : ℕ) (p : Pool) (g s : ℕ) {q : Pool} → q ≡ putSlot v p g s → length (q .slots) ≡ length (p .slots)
+unfolding putSlot
+put-long v p g s e = ap (λ (x : Pool). length (x .slots)) e ∙ length-put-bit v (p .slots) (512 * g + s)

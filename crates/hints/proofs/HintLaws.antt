@@ -3,11 +3,11 @@ use mathlib.Core.Path.{_≡_, refl, sym, ap, ap₂, _∙_, subst}
 use mathlib.Core.Logic.{_≢_, by-cases}
 use mathlib.Core.Bool.{Bool, true, false, _&&_, false≢true}
 use mathlib.Core.List.{List}
-use Prim.Native.Nat.{ℕ, suc, _+_, _-_, _*_, _≤_, _<_, min}
+use Prim.Native.Nat.{ℕ, _+_, _-_, _*_, _≤_, _<_, min}
 use native.Mathlib.Decide.{ℕ-discrete, decLt}
 use native.Mathlib.Omega.{arith}
 use lib.Dec.{ltb}
-use lib.ListN.{getD}
+use lib.ListN.{length, getD}
 use borrow.Author.Tests.{eq-eqb, ne-eqb, lt-ltb, ltb-true}
 use Rattle.bitrow.specs.Row.{bitAt, nextBit, putBit}
 use Rattle.bitrow.proofs.Rows.{First, first-at, first-next}
@@ -15,8 +15,8 @@ use Rattle.bitrow.proofs.Marks.{put-bit-other}
 use Rattle.classes.specs.Classes.{slots, pages, classFor}
 use Rattle.classes.proofs.ClassLaws.{any-row}
 use Rattle.records.specs.declared.Kind.the-variants.{Class}
-use Rattle.records.specs.Kinds.{zeros, behind, wordsOf, isRunOf}
-use Rattle.records.specs.Pool.{Pool, pool, kindAt}
+use Rattle.records.specs.Kinds.{behind, wordsOf, isRunOf}
+use Rattle.records.specs.Pool.{Pool, kindAt}
 use Rattle.records.specs.Calls.{admitOf, leaves}
 use Rattle.records.proofs.Flags.{flag-eq, lt-cases, le-cases}
 use Rattle.records.proofs.RunLaws.{class-at-low}
@@ -29,11 +29,10 @@ use Rattle.blocks.proofs.StoreLaws.{slot-kinds, slot-same}
 use Rattle.blocks.proofs.KeepLaws.{admit-good, take-large, free-large, take-class}
 use Rattle.reserve.specs.declared.Reserved.{Reserved}
 use Rattle.reserve.specs.declared.Plan.{Plan}
-use Rattle.reserve.specs.declared.Plan.the-variants.{Refuse, InRun, NewRun, NewLarge}
+use Rattle.reserve.specs.declared.Plan.the-variants.{Refuse, TakeSlot, NewClass, NewLarge}
 use Rattle.reserve.specs.Reserve.{lowestFree, hasSlot, slotPage, ifFound, slotOrRun, planSlot, planRun, pagesFor, planLarge, plan, perform, slotGiven}
 use Rattle.reserve.specs.Plans.{SlotFree, PlanOk}
 use Rattle.reserve.proofs.PlanLaws.{free-first, searched, slot-ok, plan-in}
-use Rattle.reserve.proofs.StoreForms.{in-run-is}
 use Rattle.reserve.proofs.MeanLaws.{found-run}
 use Rattle.reserve.proofs.AnswerForms.{plan-good}
 use Rattle.release.specs.declared.Spot.{Spot}
@@ -49,8 +48,8 @@ use Rattle.hints.proofs.RowLaws.{same, kept}
 -- no run of the plan's class that has a free slot starts before the planned page; for a new run there is none at all
 abbrev PlanFirst : ℕ → Pool → Plan → Type 0
 PlanFirst c p (Refuse r) = Unit {0}
-PlanFirst c p (InRun g b s) = (i : ℕ) → i < 512 * c → hasSlot p b i ≡ true → g ≤ i
-PlanFirst c p (NewRun g b) = (i : ℕ) → i < 512 * c → hasSlot p b i ≡ false
+PlanFirst c p (TakeSlot g b s) = (i : ℕ) → i < 512 * c → hasSlot p b i ≡ true → g ≤ i
+PlanFirst c p (NewClass g b) = (i : ℕ) → i < 512 * c → hasSlot p b i ≡ false
 PlanFirst c p (NewLarge g n) = Unit {0}
 
 module _ (c : ℕ) (p : Pool) where
@@ -63,7 +62,7 @@ module _ (c : ℕ) (p : Pool) where
       (λ x. absurd (false≢true (sym (w .before i (omega arith) x) ∙ t))) (λ x. omega arith))
       (λ h. go (findPages c (p .bits) (pages b)) (λ i l. w .before i (omega arith) (omega arith)))
     where
-      go : (x : Found) → ((i : ℕ) → i < 512 * c → hasSlot p b i ≡ false) → PlanFirst c p (ifFound x (λ g. NewRun g b))
+      go : (x : Found) → ((i : ℕ) → i < 512 * c → hasSlot p b i ≡ false) → PlanFirst c p (ifFound x (λ g. NewClass g b))
       go (At g) h = h
       go Nothing h = tt
 
@@ -71,7 +70,7 @@ module _ (c : ℕ) (p : Pool) where
   unfolding planLarge planRun
   large-first n = le-cases (PlanFirst c p) n 2093056 (λ k. go (findPages c (p .bits) (pagesFor n))) (λ k. tt)
     where
-      go : (x : Found) → PlanFirst c p (ifFound x (λ g. NewLarge g (pagesFor n)))
+      go : (x : Found) → PlanFirst c p (ifFound x (λ g. NewLarge g (pagesFor n - 1)))
       go (At g) = tt
       go Nothing = tt
 
@@ -89,10 +88,10 @@ module _ (c : ℕ) (p : Pool) (ok : admitOf c p ≡ 0) (l : List ℕ) (h : Hints
   shape = admitted c p ok .shape
 
   -- a slot of a run that stands
-  in-run : (g b s : ℕ) → PlanOk c p (InRun g b s) → PlanFirst c p (InRun g b s)
-      → Hints c (perform p (InRun g b s)) (notedSlot (perform p (InRun g b s) .slots) l g b)
+  take-slot : (g b s : ℕ) → PlanOk c p (TakeSlot g b s) → PlanFirst c p (TakeSlot g b s)
+      → Hints c (perform p (TakeSlot g b s)) (notedSlot (perform p (TakeSlot g b s) .slots) l g b)
   unfolding notedSlot
-  in-run g b s k first =
+  take-slot g b s k first =
       let q : Pool = putSlot 1 p g s in
       let few = shape .few in let m = any-row b .slots-most in let t = k .slot in let i = k .inside in
       let others = slot-has c 1 p g b s (omega arith) shape i (omega arith) (k .kind) in
@@ -101,10 +100,10 @@ module _ (c : ℕ) (p : Pool) (ok : admitOf c p ≡ 0) (l : List ℕ) (h : Hints
       (λ j x y. by-cases (ℕ-discrete j g) (λ e. omega arith) (λ e. first j x (others b j x (λ _. e) ∙ y)))
 
   -- a new run of a class
-  new-run : (g b : ℕ) → PlanOk c p (NewRun g b) → PlanFirst c p (NewRun g b)
-      → Hints c (perform p (NewRun g b)) (notedSlot (perform p (NewRun g b) .slots) l g b)
+  new-class : (g b : ℕ) → PlanOk c p (NewClass g b) → PlanFirst c p (NewClass g b)
+      → Hints c (perform p (NewClass g b)) (notedSlot (perform p (NewClass g b) .slots) l g b)
   unfolding notedSlot behind
-  new-run g b (bl, k) first =
+  new-class g b (bl, k) first =
       let few = shape .few in let i = k .inside in let n = k .some in
       let f = take-class c p (admit-good c p ok) g b bl (omega arith) (λ j x y. k .clear j x (omega arith)) in
       let q : Pool = putRun 1 p g (wordsOf (Class b)) in
@@ -117,47 +116,47 @@ module _ (c : ℕ) (p : Pool) (ok : admitOf c p ≡ 0) (l : List ℕ) (h : Hints
       (has-by r b g (slot-kinds c 1 q g 0 g ∙ f .first))
       (λ j x y. by-cases (ℕ-discrete j g) (λ e. omega arith) (λ e. absurd (false≢true (sym (first j x) ∙ others b j x (λ _. e) ∙ y))))
 
-  new-large : (g n : ℕ) → PlanOk c p (NewLarge g n) → Hints c (perform p (NewLarge g n)) l
-  new-large g n k =
-      let i = k .inside in let m = k .some in let t = k .few in
-      let f = take-large c p (admit-good c p ok) g (n - 1) (omega arith) (omega arith) (λ j x y. k .clear j x (omega arith)) in
-      same h (λ d j x. run-has f d j x (λ e. refl))
+  new-large : (g k : ℕ) → PlanOk c p (NewLarge g k) → Hints c (perform p (NewLarge g k)) l
+  new-large g k f =
+      let t = f .few in
+      let e = take-large c p (admit-good c p ok) g k (omega arith) (f .inside) (f .clear) in same h (λ d j x. run-has e d j x (λ _. refl))
 
   performed : (x : Plan) → PlanOk c p x → PlanFirst c p x → Hints c (perform p x) (notedPlan (perform p x .slots) l x)
   performed (Refuse r) k first = h
-  performed (InRun g b s) k first = in-run g b s k first
-  performed (NewRun g b) k first = new-run g b k first
+  performed (TakeSlot g b s) k first = take-slot g b s k first
+  performed (NewClass g b) k first = new-class g b k first
   performed (NewLarge g n) k first = new-large g n k
 
-  after : (x : Plan) → PlanOk c p x → PlanFirst c p x → (q : Pool) → q ≡ perform p x
+  performed-as : (x : Plan) → PlanOk c p x → PlanFirst c p x → (q : Pool) → q ≡ perform p x
       → (m : List ℕ) → m ≡ notedPlan (q .slots) l x → Hints c q m
-  after x k first q f m g =
+  performed-as x k first q f m g =
       let d = performed x k first in
       let u : notedPlan (perform p x .slots) l x ≡ m = ap (λ (r : Pool). notedPlan (r .slots) l x) (sym f) ∙ sym g in
       subst (λ (r : Pool). Hints c r m) (sym f) (subst (Hints c (perform p x)) u d)
 
   pub plan-noted : (n : ℕ) (x : Plan) → x ≡ plan c p n → (q : Pool) → q ≡ perform p x
       → (m : List ℕ) → m ≡ notedPlan (q .slots) l x → Hints c q m
-  plan-noted n x e q f m g = after x (plan-good c p n x e ok) (subst (PlanFirst c p) (sym e) (plan-first c p n)) q f m g
+  plan-noted n x e q f m g = performed-as x (plan-good c p n x e ok) (subst (PlanFirst c p) (sym e) (plan-first c p n)) q f m g
 
   -- the lowest free slot of the first run of class b that has one
   module _ (b g s n : ℕ) (bl : b < 30) (k : n ≡ slots b) (at : g ≡ slotPage p b 0 (512 * c)) (gl : g < 512 * c)
       (e : s ≡ lowestFree (p .slots) b g) where
-    planned : InRun g b s ≡ planSlot c p b
+    planned : TakeSlot g b s ≡ planSlot c p b
     planned = plan-in c p b g s at gl e
 
     free-here : SlotFree c p g b s
     free-here = subst (PlanOk c p) (sym planned) (slot-ok c p (admitted c p ok .whole) b bl)
 
-    pub slot-room : (s < n) × (n ≤ 512)
-    slot-room = let h = free-here .slot in let m = any-row b .slots-most in (omega arith, omega arith)
+    pub slot-room : (s < n) × (n ≤ 512) × (g < 8192) × (512 * g + 512 ≤ 64 * length (p .slots))
+    slot-room =
+        let h = free-here .slot in let m = any-row b .slots-most in let f = shape in (omega arith, omega arith, omega arith, omega arith)
 
     -- behind it, the search for another one goes on
     more : (r : ℕ) (ss : List ℕ) → ss ≡ putBit 1 (p .slots) (512 * g + s) → r ≡ nextBit 0 ss (512 * g + s) (512 * g + n - (512 * g + s))
         → ltb r (512 * g + n) ≡ ltb (lowestFree ss b g) (slots b)
     unfolding lowestFree
     more r ss f h =
-        let (sl, nl) = slot-room in let few = shape in
+        let room = slot-room in let few = shape in
         let w = first-at ss (512 * g + s) (512 * g + n) 0 r (omega arith) (omega arith) h in
         let a = w .low in let d = w .high in
         let was = free-first (p .slots) b g in
@@ -178,18 +177,15 @@ module _ (c : ℕ) (p : Pool) (ok : admitOf c p ≡ 0) (l : List ℕ) (h : Hints
         (λ x. let y = ltb-true r (512 * g + n) x in lt-ltb (nextBit 0 ss (512 * g) (slots b) - 512 * g) (slots b) (omega arith))
         (λ x. let y = ltb-true (nextBit 0 ss (512 * g) (slots b) - 512 * g) (slots b) x in lt-ltb r (512 * g + n) (omega arith))
 
-    pub slot-taken : (ss : List ℕ) → ss ≡ putBit 1 (p .slots) (512 * g + s) → (a : Reserved) → a ≡ slotGiven g b s
-        → leaves a (pool (p .bits) (p .words) ss) ≡ carried p (planSlot c p b)
-    slot-taken ss f a h =
-        ap₂ (λ (x : Reserved) (y : Pool). leaves x y) h (in-run-is p g b s ss f) ∙ ap (carried p) planned
+    pub slot-taken : {q : Pool} → q ≡ putSlot 1 p g s → (a : Reserved) → a ≡ slotGiven g b s → leaves a q ≡ carried p (planSlot c p b)
+    slot-taken f a h = ap₂ (λ (x : Reserved) (y : Pool). leaves x y) h f ∙ ap (carried p) planned
 
-    pub slot-noted : (ss : List ℕ) → ss ≡ putBit 1 (p .slots) (512 * g + s)
-        → (r : ℕ) → r ≡ nextBit 0 ss (512 * g + s) (512 * g + n - (512 * g + s))
-        → (m : List ℕ) → m ≡ noted l b g g (ltb r (512 * g + n)) → Hints c (pool (p .bits) (p .words) ss) m
-    unfolding notedSlot
-    slot-noted ss f r h m u =
-        after (InRun g b s) free-here (subst (PlanFirst c p) (sym planned) (slot-first c p b))
-        (pool (p .bits) (p .words) ss) (in-run-is p g b s ss f) m (u ∙ ap (noted l b g g) (more r ss f h))
+    pub slot-noted : {q : Pool} → q ≡ putSlot 1 p g s → (r : ℕ) → r ≡ nextBit 0 (q .slots) (512 * g + s) (512 * g + n - (512 * g + s))
+        → (m : List ℕ) → m ≡ noted l b g g (ltb r (512 * g + n)) → Hints c q m
+    unfolding notedSlot putSlot
+    slot-noted {q} f r h m u =
+        performed-as (TakeSlot g b s) free-here (subst (PlanFirst c p) (sym planned) (slot-first c p b))
+        q f m (u ∙ ap (noted l b g g) (more r (q .slots) (ap (λ (x : Pool). x .slots) f) h))
 
   -- ---- what starts at a place is given back
 
@@ -205,12 +201,9 @@ module _ (c : ℕ) (p : Pool) (ok : admitOf c p ≡ 0) (l : List ℕ) (h : Hints
       (sym (found-run r b g s (slot-kinds c 0 p g s g ∙ k .kind) t (free′ ∙ ne-eqb 0 1 (omega arith))))
       (λ j x y. by-cases (ℕ-discrete j g) (λ e. omega arith) (λ e. let z = h .low b j bl x (others b j x (λ _. e) ∙ y) in omega arith))
 
-  gave-run : (q g n : ℕ) → There c p q (Run g n) → Hints c (giveBack p (Run g n)) l
-  gave-run q g n k =
-      let m = k .some in
-      let r : suc (n - 1) ≡ n = omega arith in
-      let f = free-large c p (admit-good c p ok) g (n - 1) (k .inside) (k .kind) in
-      subst (λ (z : ℕ). Hints c (putRun 0 p g (zeros z)) l) r (same h (λ d j x. sym (run-has f d j x (λ e. refl))))
+  gave-run : (q g k : ℕ) → There c p q (Run g k) → Hints c (giveBack p (Run g k)) l
+  gave-run q g k r =
+      let f = free-large c p (admit-good c p ok) g k (r .inside) (r .kind) in same h (λ d j x. sym (run-has f d j x (λ _. refl)))
 
   gave : (q : ℕ) (x : Spot) → There c p q x → Hints c (giveBack p x) (notedSpot l x)
   gave q (Nowhere r) k = h

@@ -11,7 +11,7 @@ use Rattle.records.specs.Pool.{Pool}
 use Rattle.records.specs.Calls.{Left, leaves, freshPool}
 use Rattle.reserve.specs.declared.Reserved.{Reserved}
 use Rattle.reserve.specs.declared.Plan.{Plan}
-use Rattle.reserve.specs.declared.Plan.the-variants.{Refuse, InRun, NewRun, NewLarge}
+use Rattle.reserve.specs.declared.Plan.the-variants.{Refuse, TakeSlot, NewClass, NewLarge}
 use Rattle.reserve.specs.Reserve.{lowestFree, hasSlot, plan, perform, answer}
 use Rattle.release.specs.declared.Spot.{Spot}
 use Rattle.release.specs.declared.Spot.the-variants.{Nowhere, Run, Slot}
@@ -63,24 +63,24 @@ notedSlot ss l g b = noted l b g g (ltb (lowestFree ss b g) (slots b))
 -- a plan was performed, which left the slot bits ss
 abbrev pub notedPlan : List ℕ → List ℕ → Plan → List ℕ
 notedPlan ss l (Refuse r) = l
-notedPlan ss l (InRun g b s) = notedSlot ss l g b
-notedPlan ss l (NewRun g b) = notedSlot ss l g b
-notedPlan ss l (NewLarge g n) = l
+notedPlan ss l (TakeSlot g b s) = notedSlot ss l g b
+notedPlan ss l (NewClass g b) = notedSlot ss l g b
+notedPlan ss l (NewLarge g k) = l
 
 -- what started at a place was given back
 abbrev pub notedSpot : List ℕ → Spot → List ℕ
 notedSpot l (Nowhere r) = l
-notedSpot l (Run g n) = l
+notedSpot l (Run g k) = l
 notedSpot l (Slot g b s) = noted l b (min (getD l (3840 + b) 0) g) g true
 
 -- the numbers of a plan are those of a pool with n words of slot bits
 abbrev pub PlanNear : ℕ → Plan → Type 0
 PlanNear n (Refuse r) = Unit {0}
-PlanNear n (InRun g b s) = (g < 8192) × (b < 30) × (8 * g + 8 ≤ n)
-PlanNear n (NewRun g b) = (g < 8192) × (b < 30) × (8 * g + 8 ≤ n)
-PlanNear n (NewLarge g m) = Unit {0}
+PlanNear n (TakeSlot g b s) = (g < 8192) × (b < 30) × (8 * g + 8 ≤ n)
+PlanNear n (NewClass g b) = (g < 8192) × (b < 30) × (8 * g + 8 ≤ n)
+PlanNear n (NewLarge g k) = Unit {0}
 
 abbrev pub SpotNear : Spot → Type 0
 SpotNear (Nowhere r) = Unit {0}
-SpotNear (Run g n) = Unit {0}
+SpotNear (Run g k) = Unit {0}
 SpotNear (Slot g b s) = (g < 8192) × (b < 30)

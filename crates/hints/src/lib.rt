@@ -82,13 +82,13 @@ fn note_plan(slots: &[u64], hints: &mut [u64], x: reserve::Plan) -> u64
         reserve::Plan::Refuse(r) => {
             return 0;
         }
-        reserve::Plan::InRun(g, b, s) => {
+        reserve::Plan::TakeSlot(g, b, s) => {
             return note_slot(slots, hints, g, b);
         }
-        reserve::Plan::NewRun(g, b) => {
+        reserve::Plan::NewClass(g, b) => {
             return note_slot(slots, hints, g, b);
         }
-        reserve::Plan::NewLarge(g, n) => {
+        reserve::Plan::NewLarge(g, k) => {
             return 0;
         }
     }
@@ -98,7 +98,7 @@ fn note_plan(slots: &[u64], hints: &mut [u64], x: reserve::Plan) -> u64
 fn take_slot(
     c: u64,
     bits: &[u64],
-    words: &[u32],
+    words: &mut [u32],
     slots: &mut [u64],
     hints: &mut [u64],
     g: usize,
@@ -109,10 +109,9 @@ fn take_slot(
     ensures { λ r. ⌜ (leaves r (after bits words slots) ≡ carried (before bits words slots) (planSlot c (before bits words slots) b)) × (Hints c (after bits words slots) (now (hints .exit))) ⌝ }
 {
     let s = reserve::lowest_free(slots, g, b, n);
-    let i = 512 * g + s;
-    bitrow::put_bit(slots, i, true);
+    blocks::put_slot(bits, words, slots, g, s, true);
     let end = 512 * g + n;
-    let more = bitrow::next_bit(slots, i, end, false) < end;
+    let more = bitrow::next_bit(slots, 512 * g + s, end, false) < end;
     let bytes = hints[3870 + b];
     note(hints, b, g, g, more);
     reserve::slot_given(g, b, s, bytes)
@@ -177,8 +176,8 @@ fn spot_hinted(
         release::Area::Bare => {
             return release::Spot::Nowhere(NO_BLOCK);
         }
-        release::Area::Large(g, n) => {
-            return release::Spot::Run(g, n);
+        release::Area::Large(g, k) => {
+            return release::Spot::Run(g, k);
         }
         release::Area::Class(g, b) => {
             let bytes = hints[3870 + b] as usize;
@@ -197,7 +196,7 @@ fn note_spot(hints: &mut [u64], x: release::Spot)
         release::Spot::Nowhere(r) => {
             return;
         }
-        release::Spot::Run(g, n) => {
+        release::Spot::Run(g, k) => {
             return;
         }
         release::Spot::Slot(g, b, s) => {

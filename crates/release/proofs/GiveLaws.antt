@@ -7,26 +7,23 @@ use mathlib.Core.Option.{Option·some-injective}
 use Prim.Native.Nat.{ℕ, zero, suc, _+_, _-_, _*_, _/_, _%_, _≤_, _<_}
 use native.Mathlib.Nat.{le-refl, div-add-mod'}
 use native.Mathlib.Omega.{arith}
-use lib.ListN.{length, getD, set}
-use lib.Seq.{sets}
+use lib.ListN.{getD}
 use Rattle.refusals.specs.Refusals.{freeSlot}
 use Rattle.refusals.proofs.CallLaws.{refused, served}
-use Rattle.bitrow.specs.Row.{isSet, putBit, putBits}
+use Rattle.bitrow.specs.Row.{isSet}
 use Rattle.classes.specs.Classes.{size, slots}
 use Rattle.records.specs.declared.Kind.{Kind}
 use Rattle.records.specs.declared.Kind.the-variants.{Edge, Free, Damaged, Large, Class, Inner}
 use Rattle.records.specs.Kinds.{zeros, spanOf}
-use Rattle.records.specs.Pool.{Pool, pool, kindAt, slotAt}
+use Rattle.records.specs.Pool.{Pool, kindAt, slotAt}
 use Rattle.records.specs.Sound.{step, sound}
 use Rattle.records.specs.Calls.{admitOf, Left, leaves}
 use Rattle.records.proofs.Flags.{eq-cases, lt-cases}
-use Rattle.records.proofs.KindLaws.{length-zeros, getD-zeros}
+use Rattle.records.proofs.KindLaws.{getD-zeros}
 use Rattle.records.proofs.WalkLaws.{sound-walks}
-use Rattle.records.proofs.RunLaws.{walk-run}
+use Rattle.records.proofs.RunLaws.{Whole, walk-run, large-at-low}
 use Rattle.classes.proofs.ClassLaws.{any-row}
 use Rattle.records.proofs.WordLaws.{page-word}
-use Rattle.blocks.specs.Stores.{putRun, putSlot}
-use Rattle.blocks.proofs.StoreLaws.{first-stored}
 use Rattle.release.specs.declared.Spot.{Spot}
 use Rattle.release.specs.declared.Sized.{Sized}
 use Rattle.release.specs.declared.Spot.the-variants.{Nowhere, Run, Slot}
@@ -36,11 +33,10 @@ use Rattle.release.specs.Release.{isInner, firstPage, slotSpot, spotIn, 
 
 -- ---- what was found
 
--- a large run of n pages starts at the place q
-pub record RunAt (c : ℕ) (p : Pool) (q g n : ℕ) : Type 0 where
+-- a large run with k pages behind its first starts at the place q
+pub record RunAt (c : ℕ) (p : Pool) (q g k : ℕ) : Type 0 where
   pub inside : g < 512 * c
-  pub some : 1 ≤ n
-  pub kind : kindAt p g ≡ Large (n - 1)
+  pub kind : kindAt p g ≡ Large k
   pub place : q ≡ 4096 * g
 
 -- a taken slot of class b starts at the place q
@@ -53,7 +49,7 @@ pub record SlotAt (c : ℕ) (p : Pool) (q g b s : ℕ) : Type 0 where
 
 abbrev pub There : ℕ → Pool → ℕ → Spot → Type 0
 There c p q (Nowhere r) = 1 ≤ r
-There c p q (Run g n) = RunAt c p q g n
+There c p q (Run g k) = RunAt c p q g k
 There c p q (Slot g b s) = SlotAt c p q g b s
 
 module _ (c : ℕ) (p : Pool) (q g : ℕ) (l : g < 512 * c) (low : 4096 * g ≤ q) where
@@ -79,7 +75,7 @@ module _ (c : ℕ) (p : Pool) (q g : ℕ) (l : g < 512 * c) (low : 4096 * g ≤ 
   spot-there Damaged e = omega arith
   spot-there (Large k) e =
       eq-cases (There c p q) (q - 4096 * g) 0
-      (λ z. let r : suc k - 1 ≡ k = omega arith in record { inside = l; some = omega arith; kind = e ∙ ap Large (sym r); place = omega arith }) (λ z. omega arith)
+      (λ z. record { inside = l; kind = e; place = omega arith }) (λ z. omega arith)
   spot-there (Class b) e = slot-there b e
   spot-there (Inner w) e = omega arith
 
@@ -102,24 +98,20 @@ there c p q =
 
 -- ---- the pages of a large run
 
-module _ (c : ℕ) (p : Pool) (s : sound c p ≡ true) {q g n : ℕ} (r : RunAt c p q g n) where
-  pub large-ends : g + n ≤ 512 * c
+module _ (c : ℕ) (p : Pool) (s : sound c p ≡ true) {q g k : ℕ} (r : RunAt c p q g k) where
+  large-walk : Whole (kindAt p) (512 * c) g
+  large-walk = walk-run (kindAt p) (512 * c) g (sound-walks c p s .walks) (r .inside) (let e : spanOf (kindAt p g) ≡ suc k = ap spanOf (r .kind) in omega arith)
+
+  pub large-ends : (g + suc k ≤ 512 * c) × (k < 511)
   large-ends =
-      let a = r .some in
-      let e : spanOf (kindAt p g) ≡ suc (n - 1) = ap spanOf (r .kind) in
-      let w = walk-run (kindAt p) (512 * c) g (sound-walks c p s .walks) (r .inside) (omega arith) in
-      let b = w .ends in omega arith
+      let e : spanOf (kindAt p g) ≡ suc k = ap spanOf (r .kind) in
+      let b = large-walk .ends in let l = large-at-low p g k (r .kind) in (omega arith, omega arith)
 
-  pub large-zeros : (i : ℕ) → g < i → i < g + n → getD (p .words) i 0 ≡ 0
+  pub large-zeros : (i : ℕ) → g < i → i < g + suc k → getD (p .words) i 0 ≡ 0
   large-zeros i x y =
-      let e : spanOf (kindAt p g) ≡ suc (n - 1) = ap spanOf (r .kind) in
-      let w = walk-run (kindAt p) (512 * c) g (sound-walks c p s .walks) (r .inside) (omega arith) in
-      let z : zeros (n - 1) ≡ w .due = Option·some-injective _ _ (ap (step []) (sym (r .kind)) ∙ w .begins) in
-      page-word p i (w .rest i x (omega arith) ∙ ap (λ (l : List ℕ). Inner (getD l (i - suc g) 0)) (sym z) ∙ ap Inner (getD-zeros (n - 1) (i - suc g)))
-
-pub first-cleared : (n : ℕ) (l : List ℕ) (g : ℕ) → 1 ≤ n → ((i : ℕ) → g < i → i < g + n → getD l i 0 ≡ 0) → set l g 0 ≡ sets l g (zeros n)
-first-cleared zero l g a h = absurd (omega arith)
-first-cleared (suc n) l g a h = first-stored 0 n l g h
+      let e : spanOf (kindAt p g) ≡ suc k = ap spanOf (r .kind) in
+      let z : zeros k ≡ large-walk .due = Option·some-injective _ _ (ap (step []) (sym (r .kind)) ∙ large-walk .begins) in
+      page-word p i (large-walk .rest i x (omega arith) ∙ ap (λ (l : List ℕ). Inner (getD l (i - suc g) 0)) (sym z) ∙ ap Inner (getD-zeros k (i - suc g)))
 
 -- ---- the work of a release
 
@@ -132,17 +124,9 @@ module _ (p : Pool) {x : Spot} where
   pub gave-nothing : (r : ℕ) → x ≡ Nowhere r → leaves r p ≡ gave p x
   gave-nothing r e = ap (gave p) (sym e)
 
-  pub gave-run : (g n : ℕ) → x ≡ Run g n → (bs ws : List ℕ) → bs ≡ putBits 0 (p .bits) g n → ws ≡ sets (p .words) g (zeros n)
-      → leaves 0 (pool bs ws (p .slots)) ≡ gave p x
-  unfolding putRun
-  gave-run g n e bs ws a b =
-      let z : bs ≡ putBits 0 (p .bits) g (length (zeros n)) = a ∙ ap (putBits 0 (p .bits) g) (sym (length-zeros n)) in
-      ap₂ (λ (u v : List ℕ). leaves 0 (pool u v (p .slots))) z b ∙ ap (gave p) (sym e)
-
-  pub gave-slot : (g b s : ℕ) → x ≡ Slot g b s → (ss : List ℕ) → ss ≡ putBit 0 (p .slots) (512 * g + s)
-      → leaves 0 (pool (p .bits) (p .words) ss) ≡ gave p x
-  unfolding putSlot
-  gave-slot g b s e ss a = ap (λ (u : List ℕ). leaves 0 (pool (p .bits) (p .words) u)) a ∙ ap (gave p) (sym e)
+  -- what was stored is what is given back
+  pub gave-stored : {y : Spot} {q : Pool} → x ≡ y → q ≡ giveBack p y → released y ≡ 0 → leaves 0 q ≡ gave p x
+  gave-stored {y} e f z = ap₂ (λ (r : ℕ) (u : Pool). leaves r u) (sym z) f ∙ ap (gave p) (sym e)
 
 -- at a place
 pub gave-at : (c : ℕ) (p : Pool) (q : ℕ) {x : Spot} → x ≡ spot c p q → gave p x ≡ give c p q

@@ -11,13 +11,13 @@ use Rattle.classes.specs.Classes.{size, slots}
 use Rattle.classes.proofs.ClassLaws.{any-row}
 use Rattle.records.specs.declared.Kind.{Kind}
 use Rattle.records.specs.declared.Kind.the-variants.{Large, Class}
-use Rattle.records.specs.Kinds.{zeros, behind, spanOf}
+use Rattle.records.specs.Kinds.{behind, spanOf}
 use Rattle.records.specs.Pool.{Pool, kindAt, slotAt}
 use Rattle.records.specs.Calls.{admitOf, Left}
 use Rattle.records.specs.Runs.{InRun}
 use Rattle.records.proofs.Flags.{cond-eq, cond-lt}
 use Rattle.blocks.specs.Blocks.{Block, slotBlock, runBlock}
-use Rattle.blocks.specs.Stores.{Good, Loses, putRun}
+use Rattle.blocks.specs.Stores.{Good, Loses}
 use Rattle.blocks.proofs.ApartLaws.{live-inside}
 use Rattle.blocks.proofs.KeepLaws.{give-large, give-slot, run-whole, admit-good, good-admit}
 use Rattle.release.specs.declared.Spot.{Spot}
@@ -35,14 +35,7 @@ Gone c p q x = (b : Block) × (b .place ≡ q) × (sizeAt x ≡ sized 0 (b .size
 
 gone : (c : ℕ) (p : Pool) → Good c p → (q : ℕ) (x : Spot) → There c p q x → released x ≡ 0 → Gone c p q x
 gone c p h q (Nowhere r) t e = absurd (omega arith)
-gone c p h q (Run g n) t e =
-    let a = t .some in
-    let r : suc (n - 1) ≡ n = omega arith in (
-      runBlock g (n - 1),
-      sym (t .place),
-      ap (λ (m : ℕ). sized 0 (4096 * m)) (sym r),
-      subst (λ (m : ℕ). Loses c p (putRun 0 p g (zeros m)) (runBlock g (n - 1))) r (give-large c p h g (n - 1) (t .inside) (t .kind)),
-    )
+gone c p h q (Run g k) t e = (runBlock g k, sym (t .place), refl, give-large c p h g k (t .inside) (t .kind))
 gone c p h q (Slot g b s) t e = (slotBlock g b s, sym (t .place), refl, give-slot c p h g b s (t .inside) (t .kind) (t .slot) (t .taken))
 
 -- n bytes from the place q on: some, and all of them in a pool of c chunks
@@ -91,9 +84,9 @@ module _ (c : ℕ) (p : Pool) (h : Good c p) (g : ℕ) (l : g < 512 * c) where
       cond-lt (q / 4096) (512 * c) _ _ (omega arith) ∙ ap (spotFrom p q) (in-run c p (h .whole) g (q / 4096) l r)
       ∙ ap (spotIn p g (q - 4096 * g)) e
 
-  run-found : (k : ℕ) → kindAt p g ≡ Large k → spot c p (4096 * g) ≡ Run g (suc k)
+  run-found : (k : ℕ) → kindAt p g ≡ Large k → spot c p (4096 * g) ≡ Run g k
   run-found k e =
-      found-in (4096 * g) (Large k) e (omega arith) (omega arith) ∙ cond-eq (4096 * g - 4096 * g) 0 (Run g (suc k)) (Nowhere noBlock) (omega arith)
+      found-in (4096 * g) (Large k) e (omega arith) (omega arith) ∙ cond-eq (4096 * g - 4096 * g) 0 (Run g k) (Nowhere noBlock) (omega arith)
 
   slot-found : (b s : ℕ) → kindAt p g ≡ Class b → s < slots b → spot c p (4096 * g + s * size b) ≡ cond (slotAt p g s) (Slot g b s) (Nowhere freeSlot)
   unfolding slotSpot slotAt behind

@@ -120,10 +120,8 @@ module _ (c : ℕ) (p : Pool) (ok : admitOf c p ≡ 0) (q : ℕ) (l : q / 4096 <
           spot-in f (Class b) (in-run c p whole f (q / 4096) (omega arith) i) (sym (r .is)),
         )
 
-    pub lies-first : (k : ℕ) → Lies p (q / 4096) f (Large k) → q % 4096 ≡ 0 → (n : ℕ) → n ≡ suc k → Run f n ≡ spot c p q
-    lies-first k r z n e =
-        let s = r .by in
-        ap (Run f) e ∙ sym (cond-eq (q - 4096 * f) 0 _ _ (omega arith)) ∙ spot-self (Large k) s (r .is) refl
+    pub lies-first : (k : ℕ) → Lies p (q / 4096) f (Large k) → q % 4096 ≡ 0 → Run f k ≡ spot c p q
+    lies-first k r z = let s = r .by in sym (cond-eq (q - 4096 * f) 0 _ _ (omega arith)) ∙ spot-self (Large k) s (r .is) refl
 
     pub lies-behind : (k : ℕ) → Lies p (q / 4096) f (Large k) → q % 4096 ≢ 0 → Nowhere noBlock ≡ spot c p q
     lies-behind k r z = let s = r .by in sym (cond-ne (q - 4096 * f) 0 _ _ (omega arith)) ∙ spot-self (Large k) s (r .is) refl
@@ -140,7 +138,7 @@ module _ (c : ℕ) (p : Pool) (ok : admitOf c p ≡ 0) (q : ℕ) (l : q / 4096 <
             let b = h .below in
             let span : spanOf (kindAt p (h .first)) ≡ suc n = ap spanOf e in
             let r : InRun p (h .first) (q / 4096) = record { low = omega arith; high = omega arith } in
-            sym (cond-ne (q - 4096 * h .first) 0 (Run (h .first) (suc n)) (Nowhere noBlock) (omega arith))
+            sym (cond-ne (q - 4096 * h .first) 0 (Run (h .first) n) (Nowhere noBlock) (omega arith))
             ∙ spot-in (h .first) (Large n) (in-run c p whole (h .first) (q / 4096) (omega arith) r) e
 
     pub lies-bare : (k : Kind) → Bare k → Lies p (q / 4096) f k → Nowhere noBlock ≡ spot c p q

@@ -11,7 +11,7 @@ use Rattle.release.specs.Release.{slotSpot, spot}
 
 abbrev pub Leads : ℕ → Pool → ℕ → Area → Type 0
 Leads c p q Bare = Nowhere noBlock ≡ spot c p q
-Leads c p q (Large g n) = Run g n ≡ spot c p q
+Leads c p q (Large g k) = Run g k ≡ spot c p q
 Leads c p q (Class g b) = (g < 512 * c) × (b < 30) × (4096 * g ≤ q) × (slotSpot (p .slots) g b (q - 4096 * g) ≡ spot c p q)
 
 -- it starts at some place

@@ -18,7 +18,7 @@ pub record ReleaseMeans : Type 0 where
   -- one that is refused changes nothing
   pub refused : (c : ℕ) (p : Pool) (q r : ℕ) → give c p q .answer ≡ suc r → give c p q .left ≡ p
   -- each large run is found at its first byte
-  pub run : (c : ℕ) (p : Pool) → Good c p → (g k : ℕ) → g < 512 * c → kindAt p g ≡ Large k → spot c p (4096 * g) ≡ Run g (suc k)
+  pub run : (c : ℕ) (p : Pool) → Good c p → (g k : ℕ) → g < 512 * c → kindAt p g ≡ Large k → spot c p (4096 * g) ≡ Run g k
   -- and each slot at its own, whatever page of its run that lies in: taken, or refused 6
   pub slot : (c : ℕ) (p : Pool) → Good c p → (g b s : ℕ) → g < 512 * c → kindAt p g ≡ Class b → s < slots b
       → spot c p (4096 * g + s * size b) ≡ cond (slotAt p g s) (Slot g b s) (Nowhere freeSlot)

@@ -42,12 +42,12 @@ slotSpot bits g b off =
 
 -- byte `off` of what starts at page g, by the page's kind
 abbrev pub spotIn : Pool → ℕ → ℕ → Kind → Spot
-spotIn p g off k = begins k (Nowhere noBlock) (λ n. cond (eqb off 0) (Run g (suc n)) (Nowhere noBlock)) (λ b. slotSpot (p .slots) g b off)
+spotIn p g off k = begins k (Nowhere noBlock) (λ n. cond (eqb off 0) (Run g n) (Nowhere noBlock)) (λ b. slotSpot (p .slots) g b off)
 
 abbrev pub spotFrom : Pool → ℕ → ℕ → Spot
 spotFrom p q g = spotIn p g (q - 4096 * g) (kindAt p g)
 
--- the block or slot at the place q: a large run of so many pages, a taken slot of a class, or a refusal
+-- the block or slot at the place q: a large run with so many pages behind its first, a taken slot of a class, or a refusal
 unfoldable pub spot : ℕ → Pool → ℕ → Spot
 spot c p q = cond (ltb (q / 4096) (512 * c)) (spotFrom p q (firstPage p (q / 4096))) (Nowhere noBlock)
 
@@ -55,12 +55,12 @@ spot c p q = cond (ltb (q / 4096) (512 * c)) (spotFrom p q (firstPage p (q / 409
 
 abbrev pub giveBack : Pool → Spot → Pool
 giveBack p (Nowhere r) = p
-giveBack p (Run g n) = putRun 0 p g (zeros n)
+giveBack p (Run g k) = putRun 0 p g (zeros (suc k))
 giveBack p (Slot g b s) = putSlot 0 p g s
 
 abbrev pub released : Spot → ℕ
 released (Nowhere r) = r
-released (Run g n) = 0
+released (Run g k) = 0
 released (Slot g b s) = 0
 
 -- the work of a release on records that are sound
@@ -78,7 +78,7 @@ sized r n = record { refusal = r; size = n }
 
 abbrev pub sizeAt : Spot → Sized
 sizeAt (Nowhere r) = sized r 0
-sizeAt (Run g n) = sized 0 (4096 * n)
+sizeAt (Run g k) = sized 0 (4096 * suc k)
 sizeAt (Slot g b s) = sized 0 (size b)
 
 unfoldable pub sizeOf : ℕ → Pool → ℕ → Sized

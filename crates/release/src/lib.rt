@@ -2,28 +2,26 @@
 use refusals::FREE_SLOT;
 use refusals::NO_BLOCK;
 ghost use mathlib.Core.Path.{_≡_};
-ghost use Prim.Native.Nat.{ℕ, _+_, _*_, _<_, _≤_};
-ghost use lib.ListN.{length, getD};
-ghost use lib.Seq.{sets};
-ghost use Rattle.bitrow.specs.Row.{putBits};
+ghost use Prim.Native.Nat.{_+_, _*_, _<_, _≤_};
+ghost use lib.ListN.{length};
 ghost use Rattle.classes.specs.Classes.{size};
 ghost use Rattle.records.specs.declared.Kind.the-variants.{Class};
-ghost use Rattle.records.specs.Kinds.{slotsOf, zeros};
+ghost use Rattle.records.specs.Kinds.{slotsOf};
 ghost use Rattle.records.specs.Lent.{lent, before, after};
 ghost use Rattle.records.specs.Calls.{admitOf, leaves};
 ghost use Rattle.release.specs.Means.{ReleaseMeans};
 ghost use Rattle.release.specs.Release.{slotSpot, spot, released, giveBack, give, sizeAt};
 ghost use Rattle.release.specs.Areas.{Leads, IsSpot};
 
-// What starts at a place: nothing, with the refusal's number; a large run of so many pages; a taken slot of a run.
+// What starts at a place: nothing, with the refusal's number; a large run, by its first page and the pages behind it; a taken slot of a run.
 pub enum Spot {
     Nowhere(u64),
     Run(usize, usize),
     Slot(usize, usize, usize),
 }
 
-// What a place lies in: nothing that starts there; a large run of so many pages, at its first byte; a run of a class, by its first page
-// and the class.
+// What a place lies in: nothing that starts there; a large run, at its first byte, by its first page and the pages behind it; a run of a
+// class, by its first page and the class.
 pub enum Area {
     Bare,
     Large(usize, usize),
@@ -73,7 +71,7 @@ pub fn area_at(c: u64, bits: &[u64], words: &[u32], slots: &[u64], q: u64) -> Ar
         }
         records::Kind::Large(k) => {
             if at % 4096 == 0 {
-                return Area::Large(g, k + 1);
+                return Area::Large(g, k);
             }
             return Area::Bare;
         }
@@ -92,8 +90,8 @@ pub fn spot_at(c: u64, bits: &[u64], words: &[u32], slots: &[u64], q: u64) -> Sp
         Area::Bare => {
             return Spot::Nowhere(NO_BLOCK);
         }
-        Area::Large(g, n) => {
-            return Spot::Run(g, n);
+        Area::Large(g, k) => {
+            return Spot::Run(g, k);
         }
         Area::Class(g, b) => {
             let row = classes::class_row(b);
@@ -102,15 +100,6 @@ pub fn spot_at(c: u64, bits: &[u64], words: &[u32], slots: &[u64], q: u64) -> Sp
             return slot_spot(slots, g, b, (q as usize) - 4096 * g, bytes, count);
         }
     }
-}
-
-// Frees the n pages of a large run that starts at page g. Only its first page has a word to clear.
-fn give_run(bits: &mut [u64], words: &mut [u32], g: usize, n: usize)
-    requires { ⌜ (1 ≤ n) × (g + n ≤ 8192) × (g + n ≤ 64 * length (now bits)) × (g + n ≤ length (now words)) × ((i : ℕ) → g < i → i < g + n → getD (now words) i 0 ≡ 0) ⌝ }
-    ensures { λ _. ⌜ (now (bits .exit) ≡ putBits 0 (now (bits .entry)) g n) × (now (words .exit) ≡ sets (now (words .entry)) g (zeros n)) ⌝ }
-{
-    bitrow::put_bits(bits, g, n, false);
-    words[g] = 0;
 }
 
 // Gives back what starts at a place, and answers 0 or the refusal.
@@ -122,12 +111,12 @@ pub fn give_back(c: u64, bits: &mut [u64], words: &mut [u32], slots: &mut [u64],
         Spot::Nowhere(r) => {
             return r;
         }
-        Spot::Run(g, n) => {
-            give_run(bits, words, g, n);
+        Spot::Run(g, k) => {
+            blocks::free_large(bits, words, slots, g, k);
             return 0;
         }
         Spot::Slot(g, b, s) => {
-            bitrow::put_bit(slots, 512 * g + s, false);
+            blocks::put_slot(bits, words, slots, g, s, false);
             return 0;
         }
     }
@@ -154,7 +143,8 @@ pub fn size_sound(c: u64, bits: &[u64], words: &[u32], slots: &[u64], q: u64) ->
                 size: 0,
             };
         }
-        Spot::Run(g, n) => {
+        Spot::Run(g, k) => {
+            let n = k + 1;
             return Sized {
                 refusal: 0,
                 size: 4096 * widths::wide64(n),

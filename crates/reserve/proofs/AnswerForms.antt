@@ -1,6 +1,6 @@
 -- The answer of a reserve, and the call behind the check, as the code makes them. Assumes nothing.
 use mathlib.Core.Path.{_≡_, sym, ap, ap₂, _∙_, subst}
-use Prim.Native.Nat.{ℕ, _+_, _*_, _≤_, _<_}
+use Prim.Native.Nat.{ℕ, suc, _+_, _*_, _≤_, _<_}
 use native.Mathlib.Nat.{mul-le-mul}
 use native.Mathlib.Omega.{arith}
 use Rattle.refusals.proofs.CallLaws.{refused, served}
@@ -11,7 +11,7 @@ use Rattle.records.specs.Calls.{admitOf, Left, leaves}
 use Rattle.records.proofs.RunLaws.{class-at-low}
 use Rattle.records.proofs.AdmitLaws.{admitted}
 use Rattle.reserve.specs.declared.Plan.{Plan}
-use Rattle.reserve.specs.declared.Plan.the-variants.{Refuse, InRun, NewRun, NewLarge}
+use Rattle.reserve.specs.declared.Plan.the-variants.{Refuse, TakeSlot, NewClass, NewLarge}
 use Rattle.reserve.specs.declared.Given.the-variants.{Slot, Run}
 use Rattle.reserve.specs.declared.Reserved.{Reserved}
 use Rattle.reserve.specs.Reserve.{plan, perform, slotGiven, answer, attempt, reserveOf}
@@ -31,8 +31,8 @@ pub slot-is : {g b s k f n z : ℕ} → k ≡ b → f ≡ g → n ≡ s → z �
     → record { refusal = 0; place = 4096 * f + n * z; size = z; kind = Slot (record { class = k; first = f; number = n }) } ≡ slotGiven g b s
 slot-is e f g h = cc
 
-pub large-is : {g n f m : ℕ} → f ≡ g → m ≡ n → record { refusal = 0; place = 4096 * f; size = 4096 * m; kind = Run m } ≡ answer (NewLarge g n)
-large-is e f = cc
+pub large-is : {g k f m : ℕ} → f ≡ g → m ≡ k + 1 → record { refusal = 0; place = 4096 * f; size = 4096 * m; kind = Run m } ≡ answer (NewLarge g k)
+large-is {k = k} {m = m} e f = let h : m ≡ suc k = omega arith in cc
 
 -- ---- the plan, as it was matched
 
@@ -51,9 +51,9 @@ low-as e h = subst PlanLow e h
 -- what a plan relies on keeps its numbers low
 pub ok-low : (c : ℕ) (p : Pool) → c ≤ 16 → (x : Plan) → PlanOk c p x → PlanLow x
 ok-low c p l (Refuse r) h = tt
-ok-low c p l (InRun g b s) h = let i = h .inside in (omega arith, class-at-low p g b (h .kind), slot-few h)
-ok-low c p l (NewRun g b) (d, h) = let i = h .inside in let k = h .some in (omega arith, d)
-ok-low c p l (NewLarge g n) h = let i = h .inside in let k = h .some in (omega arith, h .few)
+ok-low c p l (TakeSlot g b s) h = let i = h .inside in (omega arith, class-at-low p g b (h .kind), slot-few h)
+ok-low c p l (NewClass g b) (d, h) = let i = h .inside in let k = h .some in (omega arith, d)
+ok-low c p l (NewLarge g k) h = let i = h .inside in let f = h .few in (omega arith, omega arith)
 
 -- ---- the work, and the call
 

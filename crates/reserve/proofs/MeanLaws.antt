@@ -13,8 +13,8 @@ use Rattle.refusals.specs.Refusals.{noRoom}
 use Rattle.bitrow.specs.Row.{bitAt, isSet}
 use Rattle.classes.specs.Classes.{size, slots, pages}
 use Rattle.classes.proofs.ClassLaws.{any-row, row-facts}
-use Rattle.records.specs.declared.Kind.the-variants.{Large, Class}
-use Rattle.records.specs.Kinds.{wordsOf, behind, isRunOf, spanOf}
+use Rattle.records.specs.declared.Kind.the-variants.{Class}
+use Rattle.records.specs.Kinds.{behind, isRunOf, spanOf}
 use Rattle.records.specs.Pool.{Pool, kindAt, slotAt}
 use Rattle.records.specs.Calls.{Left}
 use Rattle.records.proofs.Flags.{and-made, cond-lt, cond-nlt}
@@ -23,10 +23,10 @@ use Rattle.gaps.specs.declared.Found.{Found}
 use Rattle.gaps.specs.declared.Found.the-variants.{At, Nothing}
 use Rattle.gaps.specs.Gaps.{findPages}
 use Rattle.gaps.proofs.Answers.{nothing-none, none-nothing}
-use Rattle.blocks.specs.Stores.{Good, Gains, putRun}
+use Rattle.blocks.specs.Stores.{Good, Gains}
 use Rattle.blocks.proofs.KeepLaws.{put-large, put-slot, put-class, good-admit}
 use Rattle.reserve.specs.declared.Plan.{Plan}
-use Rattle.reserve.specs.declared.Plan.the-variants.{Refuse, InRun, NewRun, NewLarge}
+use Rattle.reserve.specs.declared.Plan.the-variants.{Refuse, TakeSlot, NewClass, NewLarge}
 use Rattle.reserve.specs.declared.Reserved.{Reserved}
 use Rattle.reserve.specs.Reserve.{lowestFree, hasSlot, slotPage, ifFound, slotOrRun, planSlot, planRun, plan}
 use Rattle.reserve.specs.Reserve.{perform, answer, attempt, reserveOf}
@@ -40,21 +40,18 @@ use Rattle.reserve.proofs.AnswerForms.{reserve-served}
 gains : (c : ℕ) (p : Pool) → Good c p → (x : Plan) → PlanOk c p x → answer x .refusal ≡ 0 → Gains c p (perform p x) (blockOf (answer x))
 unfolding behind
 gains c p h (Refuse r) k e = absurd (omega arith)
-gains c p h (InRun g b s) k e = put-slot c p h g b s (k .inside) (k .kind) (k .slot) (k .clear)
-gains c p h (NewRun g b) (l, k) e =
+gains c p h (TakeSlot g b s) k e = put-slot c p h g b s (k .inside) (k .kind) (k .slot) (k .clear)
+gains c p h (NewClass g b) (l, k) e =
     let r = row-facts b l .pages-least in
     let i = k .inside in
     put-class c p h g b l (omega arith) (λ j x y. k .clear j x (omega arith))
 gains c p h (NewLarge g m) k e =
-    let a = k .some in let f = k .few in let i = k .inside in
-    let r : suc (m - 1) ≡ m = omega arith in
-    subst (λ (z : ℕ). Gains c p (putRun 1 p g (wordsOf (Large (m - 1)))) (record { place = 4096 * g; size = 4096 * z })) r
-    (put-large c p h g (m - 1) (omega arith) (omega arith) (λ j x y. k .clear j x (omega arith)))
+    let f = k .few in put-large c p h g m (omega arith) (k .inside) (k .clear)
 
 kept : (p : Pool) (x : Plan) (r : ℕ) → answer x .refusal ≡ suc r → perform p x ≡ p
 kept p (Refuse n) r e = refl
-kept p (InRun g b s) r e = absurd (omega arith)
-kept p (NewRun g b) r e = absurd (omega arith)
+kept p (TakeSlot g b s) r e = absurd (omega arith)
+kept p (NewClass g b) r e = absurd (omega arith)
 kept p (NewLarge g n) r e = absurd (omega arith)
 
 -- ---- the lowest free slot
@@ -82,16 +79,16 @@ abbrev firstRun : ℕ → Pool → ℕ → ℕ
 firstRun c p b = slotPage p b 0 (512 * c)
 
 -- where there is one, the plan is its lowest free slot
-plan-in : (c : ℕ) (p : Pool) (b : ℕ) → firstRun c p b < 512 * c → planSlot c p b ≡ InRun (firstRun c p b) b (lowestFree (p .slots) b (firstRun c p b))
+plan-in : (c : ℕ) (p : Pool) (b : ℕ) → firstRun c p b < 512 * c → planSlot c p b ≡ TakeSlot (firstRun c p b) b (lowestFree (p .slots) b (firstRun c p b))
 unfolding planSlot slotOrRun
 plan-in c p b l = cond-lt (firstRun c p b) (512 * c) _ _ l
 
 -- else a new run
-plan-new : (c : ℕ) (p : Pool) (b : ℕ) → 512 * c ≤ firstRun c p b → planSlot c p b ≡ ifFound (findPages c (p .bits) (pages b)) (λ f. NewRun f b)
+plan-new : (c : ℕ) (p : Pool) (b : ℕ) → 512 * c ≤ firstRun c p b → planSlot c p b ≡ ifFound (findPages c (p .bits) (pages b)) (λ f. NewClass f b)
 unfolding planSlot slotOrRun
 plan-new c p b l = cond-nlt (firstRun c p b) (512 * c) _ _ l
 
-slot-plan : (c : ℕ) (p : Pool) (b g s : ℕ) → planSlot c p b ≡ InRun g b s → (g ≡ firstRun c p b) × (s ≡ lowestFree (p .slots) b g) × (g < 512 * c)
+slot-plan : (c : ℕ) (p : Pool) (b g s : ℕ) → planSlot c p b ≡ TakeSlot g b s → (g ≡ firstRun c p b) × (s ≡ lowestFree (p .slots) b g) × (g < 512 * c)
 slot-plan c p b g s e =
     by-cases (decLt (firstRun c p b) (512 * c))
     (λ l. let f = sym (plan-in c p b l) ∙ e in
@@ -100,11 +97,11 @@ slot-plan c p b g s e =
     (sym x, sym y ∙ ap (lowestFree (p .slots) b) x, omega arith))
     (λ l. absurd (no (findPages c (p .bits) (pages b)) (sym (plan-new c p b (omega arith)) ∙ e)))
   where
-    no : (x : Found) → ifFound x (λ f. NewRun f b) ≡ InRun g b s → ⊥
+    no : (x : Found) → ifFound x (λ f. NewClass f b) ≡ TakeSlot g b s → ⊥
     no (At f) q = let z : _≡_ {A = ℕ} 0 1 = cc in omega arith
     no Nothing q = let z : _≡_ {A = ℕ} 0 1 = cc in omega arith
 
-lowest-slot : (c : ℕ) (p : Pool) → Good c p → (b g s : ℕ) → planSlot c p b ≡ InRun g b s
+lowest-slot : (c : ℕ) (p : Pool) → Good c p → (b g s : ℕ) → planSlot c p b ≡ TakeSlot g b s
     → (f t : ℕ) → f < 512 * c → kindAt p f ≡ Class b → t < slots b → slotAt p f t ≡ false → 4096 * g + s * size b ≤ 4096 * f + t * size b
 unfolding behind
 lowest-slot c p h b g s e f t lf k lt free′ =
@@ -143,20 +140,20 @@ none-found : (f : ℕ → Plan) → ((g r : ℕ) → f g ≢ Refuse r) → (x : 
 none-found f n (At g) e = absurd (n g 4 e)
 none-found f n Nothing e = refl
 
-new-run : (b g r : ℕ) → NewRun g b ≢ Refuse r
-new-run b g r e = let z : _≡_ {A = ℕ} 0 1 = cc in omega arith
+new-class : (b g r : ℕ) → NewClass g b ≢ Refuse r
+new-class b g r e = let z : _≡_ {A = ℕ} 0 1 = cc in omega arith
 
 new-large : (n g r : ℕ) → NewLarge g n ≢ Refuse r
 new-large n g r e = let z : _≡_ {A = ℕ} 0 1 = cc in omega arith
 
-in-run : (g b s r : ℕ) → InRun g b s ≢ Refuse r
-in-run g b s r e = let z : _≡_ {A = ℕ} 0 1 = cc in omega arith
+take-slot : (g b s r : ℕ) → TakeSlot g b s ≢ Refuse r
+take-slot g b s r e = let z : _≡_ {A = ℕ} 0 1 = cc in omega arith
 
 run-refused : (c : ℕ) (bits : List ℕ) (n : ℕ) → (planRun c bits n ≡ Refuse noRoom) ↔ NoGap c bits n
 unfolding planRun
 run-refused c bits n = (
-  λ e. nothing-none c bits n (none-found (λ g. NewLarge g n) (new-large n) (findPages c bits n) e),
-  λ h. ap (λ (x : Found). ifFound x (λ g. NewLarge g n)) (none-nothing c bits n h),
+  λ e. nothing-none c bits n (none-found (λ g. NewLarge g (n - 1)) (new-large (n - 1)) (findPages c bits n) e),
+  λ h. ap (λ (x : Found). ifFound x (λ g. NewLarge g (n - 1))) (none-nothing c bits n h),
 )
 
 taken-bit : (p : Pool) (g s : ℕ) → slotAt p g s ≢ false → slotAt p g s ≡ true
@@ -172,11 +169,11 @@ slot-refused c p b = (to, from)
     to : planSlot c p b ≡ Refuse noRoom → NoSlot c p b × NoGap c (p .bits) (pages b)
     to e =
         let w = searched p b (512 * c) 0 in
-        by-cases (decLt (firstRun c p b) (512 * c)) (λ l. absurd (in-run _ _ _ 4 (sym (plan-in c p b l) ∙ e)))
+        by-cases (decLt (firstRun c p b) (512 * c)) (λ l. absurd (take-slot _ _ _ 4 (sym (plan-in c p b l) ∙ e)))
         (λ l. (
           (λ g s lg k ls. taken-bit p g s (λ f. false≢true (sym (w .before g (omega arith) (omega arith)) ∙ found-run p b g s k ls f))),
           nothing-none c (p .bits) (pages b)
-              (none-found (λ f. NewRun f b) (new-run b) (findPages c (p .bits) (pages b)) (sym (plan-new c p b (omega arith)) ∙ e)),
+              (none-found (λ f. NewClass f b) (new-class b) (findPages c (p .bits) (pages b)) (sym (plan-new c p b (omega arith)) ∙ e)),
         ))
 
     from : NoSlot c p b × NoGap c (p .bits) (pages b) → planSlot c p b ≡ Refuse noRoom
@@ -185,7 +182,7 @@ slot-refused c p b = (to, from)
         by-cases (decLt (firstRun c p b) (512 * c))
         (λ l. let f = has-free c p b (firstRun c p b) l (w .here (omega arith)) in
         absurd (false≢true (sym (f .clear) ∙ s (firstRun c p b) (lowestFree (p .slots) b (firstRun c p b)) l (f .kind) (f .slot))))
-        (λ l. plan-new c p b (omega arith) ∙ ap (λ (x : Found). ifFound x (λ f. NewRun f b)) (none-nothing c (p .bits) (pages b) g))
+        (λ l. plan-new c p b (omega arith) ∙ ap (λ (x : Found). ifFound x (λ f. NewClass f b)) (none-nothing c (p .bits) (pages b) g))
 
 pub reserve-means : ReserveMeans
 unfolding attempt

@@ -24,7 +24,7 @@ use Rattle.gaps.specs.declared.Found.the-variants.{At, Nothing}
 use Rattle.gaps.specs.Gaps.{findPages}
 use Rattle.gaps.proofs.Answers.{found-free}
 use Rattle.reserve.specs.declared.Plan.{Plan}
-use Rattle.reserve.specs.declared.Plan.the-variants.{Refuse, InRun, NewRun, NewLarge}
+use Rattle.reserve.specs.declared.Plan.the-variants.{Refuse, TakeSlot, NewClass, NewLarge}
 use Rattle.reserve.specs.Reserve.{lowestFree, hasSlot, slotPage, ifFound, slotOrRun, planSlot, planRun, pagesFor, planLarge, plan}
 use Rattle.reserve.specs.Plans.{SlotFree, PagesFree, PlanOk}
 
@@ -136,8 +136,8 @@ module _ (c : ℕ) (p : Pool) (s : sound c p ≡ true) where
   unfolding planRun
   run-ok n a = go (findPages c (p .bits) n) refl
     where
-      go : (x : Found) → findPages c (p .bits) n ≡ x → PlanOk c p (ifFound x (λ g. NewLarge g n))
-      go (At g) e = gap-free n g a e
+      go : (x : Found) → findPages c (p .bits) n ≡ x → PlanOk c p (ifFound x (λ g. NewLarge g (n - 1)))
+      go (At g) e = let r : n ≡ suc (n - 1) = omega arith in subst (PagesFree c p g) r (gap-free n g a e)
       go Nothing e = omega arith
 
   pub slot-ok : (b : ℕ) → b < 30 → PlanOk c p (planSlot c p b)
@@ -148,7 +148,7 @@ module _ (c : ℕ) (p : Pool) (s : sound c p ≡ true) where
       (λ h. has-free c p b (slotPage p b 0 (512 * c)) h (s′ .here (omega arith)))
       (λ h. go (findPages c (p .bits) (pages b)) refl)
     where
-      go : (x : Found) → findPages c (p .bits) (pages b) ≡ x → PlanOk c p (ifFound x (λ g. NewRun g b))
+      go : (x : Found) → findPages c (p .bits) (pages b) ≡ x → PlanOk c p (ifFound x (λ g. NewClass g b))
       go (At g) e = (l, gap-free (pages b) g (row-facts b l .pages-least) e)
       go Nothing e = omega arith
 
@@ -175,32 +175,32 @@ free-is bits b g n r e f =
     (k, ap (λ (x : ℕ). x - 512 * g) h)
 
 module _ (c : ℕ) (p : Pool) (b : ℕ) where
-  pub plan-in : (g s : ℕ) → g ≡ slotPage p b 0 (512 * c) → g < 512 * c → s ≡ lowestFree (p .slots) b g → InRun g b s ≡ planSlot c p b
+  pub plan-in : (g s : ℕ) → g ≡ slotPage p b 0 (512 * c) → g < 512 * c → s ≡ lowestFree (p .slots) b g → TakeSlot g b s ≡ planSlot c p b
   unfolding planSlot slotOrRun
-  plan-in g s e l f = ap (InRun g b) f ∙ sym (ap (slotOrRun c p b) (sym e) ∙ cond-lt g (512 * c) _ _ l)
+  plan-in g s e l f = ap (TakeSlot g b) f ∙ sym (ap (slotOrRun c p b) (sym e) ∙ cond-lt g (512 * c) _ _ l)
 
-  new-run : (g : ℕ) → g ≡ slotPage p b 0 (512 * c) → 512 * c ≤ g → ifFound (findPages c (p .bits) (pages b)) (λ f. NewRun f b) ≡ planSlot c p b
+  new-class : (g : ℕ) → g ≡ slotPage p b 0 (512 * c) → 512 * c ≤ g → ifFound (findPages c (p .bits) (pages b)) (λ f. NewClass f b) ≡ planSlot c p b
   unfolding planSlot slotOrRun
-  new-run g e l = sym (ap (slotOrRun c p b) (sym e) ∙ cond-nlt g (512 * c) _ _ l)
+  new-class g e l = sym (ap (slotOrRun c p b) (sym e) ∙ cond-nlt g (512 * c) _ _ l)
 
   pub plan-new : (g f n : ℕ) (x : Found) → g ≡ slotPage p b 0 (512 * c) → 512 * c ≤ g → n ≡ pages b → x ≡ findPages c (p .bits) n → x ≡ At f
-      → NewRun f b ≡ planSlot c p b
+      → NewClass f b ≡ planSlot c p b
   plan-new g f n x e l m h k =
-      ap (λ (y : Found). ifFound y (λ i. NewRun i b)) (sym k ∙ h ∙ ap (findPages c (p .bits)) m) ∙ new-run g e l
+      ap (λ (y : Found). ifFound y (λ i. NewClass i b)) (sym k ∙ h ∙ ap (findPages c (p .bits)) m) ∙ new-class g e l
 
   pub plan-none : (g n : ℕ) (x : Found) → g ≡ slotPage p b 0 (512 * c) → 512 * c ≤ g → n ≡ pages b → x ≡ findPages c (p .bits) n → x ≡ Nothing
       → Refuse noRoom ≡ planSlot c p b
   plan-none g n x e l m h k =
-      ap (λ (y : Found). ifFound y (λ i. NewRun i b)) (sym k ∙ h ∙ ap (findPages c (p .bits)) m) ∙ new-run g e l
+      ap (λ (y : Found). ifFound y (λ i. NewClass i b)) (sym k ∙ h ∙ ap (findPages c (p .bits)) m) ∙ new-class g e l
 
 module _ (c : ℕ) (bits : List ℕ) (n : ℕ) (x : Found) (h : x ≡ findPages c bits n) where
-  pub run-at : (g : ℕ) → x ≡ At g → NewLarge g n ≡ planRun c bits n
+  pub run-at : (g : ℕ) → x ≡ At g → NewLarge g (n - 1) ≡ planRun c bits n
   unfolding planRun
-  run-at g k = ap (λ (y : Found). ifFound y (λ i. NewLarge i n)) (sym k ∙ h)
+  run-at g k = ap (λ (y : Found). ifFound y (λ i. NewLarge i (n - 1))) (sym k ∙ h)
 
   pub run-none : x ≡ Nothing → Refuse noRoom ≡ planRun c bits n
   unfolding planRun
-  run-none k = ap (λ (y : Found). ifFound y (λ i. NewLarge i n)) (sym k ∙ h)
+  run-none k = ap (λ (y : Found). ifFound y (λ i. NewLarge i (n - 1))) (sym k ∙ h)
 
 module _ (c : ℕ) (p : Pool) (n : ℕ) where
   pub plan-small : (b : ℕ) (x : Plan) → n ≤ 3072 → b ≡ classFor n → x ≡ planSlot c p b → x ≡ plan c p n

@@ -11,7 +11,7 @@ use Rattle.records.specs.Pool.{Pool, kindAt, slotAt}
 use Rattle.gaps.specs.Gaps.{HoldsNone}
 use Rattle.blocks.specs.Blocks.{Block, block}
 use Rattle.blocks.specs.Stores.{Good, Gains}
-use Rattle.reserve.specs.declared.Plan.the-variants.{Refuse, InRun}
+use Rattle.reserve.specs.declared.Plan.the-variants.{Refuse, TakeSlot}
 use Rattle.reserve.specs.declared.Reserved.{Reserved}
 use Rattle.reserve.specs.Reserve.{planSlot, planRun, attempt}
 
@@ -34,7 +34,7 @@ pub record ReserveMeans : Type 0 where
   -- one that is refused changes nothing
   pub refused : (c : ℕ) (p : Pool) (n r : ℕ) → attempt c p n .answer .refusal ≡ suc r → attempt c p n .left ≡ p
   -- a slot in a run that stands is the free one with the lowest place among all runs of its class
-  pub lowest : (c : ℕ) (p : Pool) → Good c p → (b g s : ℕ) → planSlot c p b ≡ InRun g b s
+  pub lowest : (c : ℕ) (p : Pool) → Good c p → (b g s : ℕ) → planSlot c p b ≡ TakeSlot g b s
       → (f t : ℕ) → f < 512 * c → kindAt p f ≡ Class b → t < slots b → slotAt p f t ≡ false → 4096 * g + s * size b ≤ 4096 * f + t * size b
   -- refusal 4 is given exactly when there is neither a free slot nor a long enough gap
   pub no-slot : (c : ℕ) (p : Pool) (b : ℕ) → (planSlot c p b ≡ Refuse noRoom) ↔ (NoSlot c p b × NoGap c (p .bits) (pages b))

@@ -1,12 +1,12 @@
 -- What a plan may rely on: the slot is free, the pages are free. Assumes nothing.
 use mathlib.Core.Path.{_≡_}
 use mathlib.Core.Bool.{false}
-use Prim.Native.Nat.{ℕ, _+_, _*_, _≤_, _<_}
+use Prim.Native.Nat.{ℕ, suc, _+_, _*_, _≤_, _<_}
 use Rattle.classes.specs.Classes.{size, slots, pages}
 use Rattle.records.specs.declared.Kind.the-variants.{Free, Class}
 use Rattle.records.specs.Pool.{Pool, kindAt, slotAt}
 use Rattle.reserve.specs.declared.Plan.{Plan}
-use Rattle.reserve.specs.declared.Plan.the-variants.{Refuse, InRun, NewRun, NewLarge}
+use Rattle.reserve.specs.declared.Plan.the-variants.{Refuse, TakeSlot, NewClass, NewLarge}
 
 -- slot s of the run of class b at page g is free
 pub record SlotFree (c : ℕ) (p : Pool) (g b s : ℕ) : Type 0 where
@@ -24,20 +24,20 @@ pub record PagesFree (c : ℕ) (p : Pool) (g n : ℕ) : Type 0 where
 
 abbrev pub PlanOk : ℕ → Pool → Plan → Type 0
 PlanOk c p (Refuse r) = 1 ≤ r
-PlanOk c p (InRun g b s) = SlotFree c p g b s
-PlanOk c p (NewRun g b) = (b < 30) × PagesFree c p g (pages b)
-PlanOk c p (NewLarge g n) = PagesFree c p g n
+PlanOk c p (TakeSlot g b s) = SlotFree c p g b s
+PlanOk c p (NewClass g b) = (b < 30) × PagesFree c p g (pages b)
+PlanOk c p (NewLarge g k) = PagesFree c p g (suc k)
 
 -- the numbers of a plan are those of a pool
 abbrev pub PlanLow : Plan → Type 0
 PlanLow (Refuse r) = Unit {0}
-PlanLow (InRun g b s) = (g < 8192) × (b < 30) × (s < 512)
-PlanLow (NewRun g b) = (g < 8192) × (b < 30)
-PlanLow (NewLarge g n) = (g < 8192) × (n ≤ 511)
+PlanLow (TakeSlot g b s) = (g < 8192) × (b < 30) × (s < 512)
+PlanLow (NewClass g b) = (g < 8192) × (b < 30)
+PlanLow (NewLarge g k) = (g < 8192) × (k < 511)
 
 -- the size of the slot that a plan is for
 abbrev pub PlanSize : Plan → ℕ → Type 0
 PlanSize (Refuse r) z = Unit {0}
-PlanSize (InRun g b s) z = z ≡ size b
-PlanSize (NewRun g b) z = z ≡ size b
-PlanSize (NewLarge g n) z = Unit {0}
+PlanSize (TakeSlot g b s) z = z ≡ size b
+PlanSize (NewClass g b) z = z ≡ size b
+PlanSize (NewLarge g k) z = Unit {0}

@@ -15,7 +15,7 @@ use Rattle.gaps.specs.declared.Found.the-variants.{At, Nothing}
 use Rattle.gaps.specs.Gaps.{findPages}
 use Rattle.blocks.specs.Stores.{putRun, putSlot}
 use Rattle.reserve.specs.declared.Plan.{Plan}
-use Rattle.reserve.specs.declared.Plan.the-variants.{Refuse, InRun, NewRun, NewLarge}
+use Rattle.reserve.specs.declared.Plan.the-variants.{Refuse, TakeSlot, NewClass, NewLarge}
 use Rattle.reserve.specs.declared.Given.the-variants.{Slot, Run, None}
 use Rattle.reserve.specs.declared.Reserved.{Reserved}
 
@@ -42,7 +42,7 @@ ifFound Nothing f = Refuse noRoom
 
 -- the lowest free slot of the run of class b at page g; or, where g is behind the last page, a new run
 unfoldable pub slotOrRun : ℕ → Pool → ℕ → ℕ → Plan
-slotOrRun c p b g = cond (ltb g (512 * c)) (InRun g b (lowestFree (p .slots) b g)) (ifFound (findPages c (p .bits) (pages b)) (λ f. NewRun f b))
+slotOrRun c p b g = cond (ltb g (512 * c)) (TakeSlot g b (lowestFree (p .slots) b g)) (ifFound (findPages c (p .bits) (pages b)) (λ f. NewClass f b))
 
 -- a slot of class b: in a run that stands, else in a new one
 unfoldable pub planSlot : ℕ → Pool → ℕ → Plan
@@ -50,7 +50,7 @@ planSlot c p b = slotOrRun c p b (slotPage p b 0 (512 * c))
 
 -- a large run of n pages, by the page bits
 unfoldable pub planRun : ℕ → List ℕ → ℕ → Plan
-planRun c bits n = ifFound (findPages c bits n) (λ g. NewLarge g n)
+planRun c bits n = ifFound (findPages c bits n) (λ g. NewLarge g (n - 1))
 
 -- the pages that hold n bytes
 abbrev pub pagesFor : ℕ → ℕ
@@ -67,9 +67,9 @@ plan c p n = cond (leb n 3072) (planSlot c p (classFor n)) (planLarge c (p .bits
 
 abbrev pub perform : Pool → Plan → Pool
 perform p (Refuse r) = p
-perform p (InRun g b s) = putSlot 1 p g s
-perform p (NewRun g b) = putSlot 1 (putRun 1 p g (wordsOf (Class b))) g 0
-perform p (NewLarge g n) = putRun 1 p g (wordsOf (Large (n - 1)))
+perform p (TakeSlot g b s) = putSlot 1 p g s
+perform p (NewClass g b) = putSlot 1 (putRun 1 p g (wordsOf (Class b))) g 0
+perform p (NewLarge g k) = putRun 1 p g (wordsOf (Large k))
 
 -- ---- what it answers
 
@@ -82,9 +82,9 @@ slotGiven g b s =
 
 abbrev pub answer : Plan → Reserved
 answer (Refuse r) = refused r
-answer (InRun g b s) = slotGiven g b s
-answer (NewRun g b) = slotGiven g b 0
-answer (NewLarge g n) = record { refusal = 0; place = 4096 * g; size = 4096 * n; kind = Run n }
+answer (TakeSlot g b s) = slotGiven g b s
+answer (NewClass g b) = slotGiven g b 0
+answer (NewLarge g k) = record { refusal = 0; place = 4096 * g; size = 4096 * suc k; kind = Run (suc k) }
 
 -- a try on given records
 unfoldable pub attempt : ℕ → Pool → ℕ → Left Reserved Pool

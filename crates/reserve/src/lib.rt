@@ -2,13 +2,11 @@
 use refusals::NO_ROOM;
 use refusals::TOO_BIG;
 ghost use mathlib.Core.Path.{_≡_};
-ghost use Prim.Native.Nat.{ℕ, _+_, _-_, _*_, _<_, _≤_};
-ghost use lib.ListN.{length, getD};
-ghost use lib.Seq.{sets};
-ghost use Rattle.bitrow.specs.Row.{putBits};
+ghost use Prim.Native.Nat.{_+_, _-_, _*_, _<_, _≤_};
+ghost use lib.ListN.{length};
 ghost use Rattle.classes.specs.Classes.{size, pages};
-ghost use Rattle.records.specs.declared.Kind.the-variants.{Large, Class};
-ghost use Rattle.records.specs.Kinds.{slotsOf, wordsOf};
+ghost use Rattle.records.specs.declared.Kind.the-variants.{Class};
+ghost use Rattle.records.specs.Kinds.{slotsOf};
 ghost use Rattle.records.specs.Lent.{lent, before, after};
 ghost use Rattle.records.specs.Calls.{admitOf, leaves};
 ghost use Rattle.reserve.specs.Reserve.{lowestFree, hasSlot, slotPage, planSlot, planRun, planLarge, plan, perform, slotGiven, answer, attempt, refused};
@@ -16,11 +14,11 @@ ghost use Rattle.reserve.specs.Means.{ReserveMeans};
 ghost use Rattle.reserve.specs.Plans.{PlanOk, PlanLow, PlanSize};
 
 // What a reserve will do: refuse with a number; take slot s of the run of class b at page g; start a run of class b at page g; start a
-// large run of n pages at page g.
+// large run at page g, with k pages behind it.
 pub enum Plan {
     Refuse(u64),
-    InRun(usize, usize, usize),
-    NewRun(usize, usize),
+    TakeSlot(usize, usize, usize),
+    NewClass(usize, usize),
     NewLarge(usize, usize),
 }
 
@@ -103,13 +101,13 @@ pub fn plan_slot(
 {
     if g < 512 * (c as usize) {
         let s = lowest_free(slots, g, b, n);
-        return Plan::InRun(g, b, s);
+        return Plan::TakeSlot(g, b, s);
     }
     let row = classes::class_row(b);
     let m = widths::wide16(row.pages);
     match gaps::find_pages(c as usize, bits, m) {
         gaps::Found::At(f) => {
-            return Plan::NewRun(f, b);
+            return Plan::NewClass(f, b);
         }
         gaps::Found::Nothing => {
             return Plan::Refuse(NO_ROOM);
@@ -122,9 +120,10 @@ fn plan_run(c: u64, bits: &[u64], n: usize) -> Plan
     requires { ⌜ (8 * c ≤ length (now bits)) × (c ≤ 16) × (1 ≤ n) ⌝ }
     ensures { λ r. ⌜ r ≡ planRun c (now (bits .entry)) n ⌝ }
 {
+    let k = n - 1;
     match gaps::find_pages(c as usize, bits, n) {
         gaps::Found::At(g) => {
-            return Plan::NewLarge(g, n);
+            return Plan::NewLarge(g, k);
         }
         gaps::Found::Nothing => {
             return Plan::Refuse(NO_ROOM);
@@ -159,40 +158,6 @@ pub fn plan_for(c: u64, bits: &[u64], words: &[u32], slots: &[u64], n: u64) -> P
     plan_large(c, bits, n)
 }
 
-// The words of a new run of class b, of n pages, from page g on.
-fn class_words(words: &mut [u32], g: usize, b: usize, n: usize)
-    requires { ⌜ (g + n ≤ 8192) × (g + n ≤ length (now words)) × (b < 30) × (n ≡ pages b) ⌝ }
-    ensures { λ _. ⌜ now (words .exit) ≡ sets (now (words .entry)) g (wordsOf (Class b)) ⌝ }
-{
-    words[g] = records::class_word(b);
-    let mut k = 1;
-    while k < n {
-        words[g + k] = records::inner_word(b, k);
-        k += 1;
-    }
-}
-
-// A new run of class b at page g, with its slot 0 taken.
-fn new_run(bits: &mut [u64], words: &mut [u32], slots: &mut [u64], g: usize, b: usize)
-    requires { ⌜ (b < 30) × (g + pages b ≤ 8192) × (g + pages b ≤ 64 * length (now bits)) × (g + pages b ≤ length (now words)) × (512 * g < 64 * length (now slots)) ⌝ }
-    ensures { λ _. ⌜ after bits words slots ≡ perform (before bits words slots) (Plan.NewRun g b) ⌝ }
-{
-    let row = classes::class_row(b);
-    let n = widths::wide16(row.pages);
-    bitrow::put_bits(bits, g, n, true);
-    class_words(words, g, b, n);
-    bitrow::put_bit(slots, 512 * g, true);
-}
-
-// A large run of n pages at page g. The pages were free, so only the first has a word to write.
-fn new_large(bits: &mut [u64], words: &mut [u32], g: usize, n: usize)
-    requires { ⌜ (1 ≤ n) × (n ≤ 511) × (g + n ≤ 8192) × (g + n ≤ 64 * length (now bits)) × (g + n ≤ length (now words)) × ((i : ℕ) → g < i → i < g + n → getD (now words) i 0 ≡ 0) ⌝ }
-    ensures { λ _. ⌜ (now (bits .exit) ≡ putBits 1 (now (bits .entry)) g n) × (now (words .exit) ≡ sets (now (words .entry)) g (wordsOf (Large (n - 1)))) ⌝ }
-{
-    bitrow::put_bits(bits, g, n, true);
-    words[g] = records::large_word(n);
-}
-
 // The stores of a plan.
 pub fn perform_plan(c: u64, bits: &mut [u64], words: &mut [u32], slots: &mut [u64], x: Plan)
     requires { ⌜ (admitOf c (lent bits words slots) ≡ 0) × (PlanOk c (lent bits words slots) x) ⌝ }
@@ -202,16 +167,17 @@ pub fn perform_plan(c: u64, bits: &mut [u64], words: &mut [u32], slots: &mut [u6
         Plan::Refuse(r) => {
             return;
         }
-        Plan::InRun(g, b, s) => {
-            bitrow::put_bit(slots, 512 * g + s, true);
+        Plan::TakeSlot(g, b, s) => {
+            blocks::put_slot(bits, words, slots, g, s, true);
             return;
         }
-        Plan::NewRun(g, b) => {
-            new_run(bits, words, slots, g, b);
+        Plan::NewClass(g, b) => {
+            blocks::put_class(bits, words, slots, g, b);
+            blocks::put_slot(bits, words, slots, g, 0, true);
             return;
         }
-        Plan::NewLarge(g, n) => {
-            new_large(bits, words, g, n);
+        Plan::NewLarge(g, k) => {
+            blocks::put_large(bits, words, slots, g, k);
             return;
         }
     }
@@ -258,15 +224,15 @@ fn plan_size(x: Plan) -> u64
         Plan::Refuse(r) => {
             return 0;
         }
-        Plan::InRun(g, b, s) => {
+        Plan::TakeSlot(g, b, s) => {
             let row = classes::class_row(b);
             return widths::wide64(widths::wide16(row.size));
         }
-        Plan::NewRun(g, b) => {
+        Plan::NewClass(g, b) => {
             let row = classes::class_row(b);
             return widths::wide64(widths::wide16(row.size));
         }
-        Plan::NewLarge(g, n) => {
+        Plan::NewLarge(g, k) => {
             return 0;
         }
     }
@@ -281,14 +247,14 @@ pub fn answer_of(x: Plan, bytes: u64) -> Reserved
         Plan::Refuse(r) => {
             return refused(r);
         }
-        Plan::InRun(g, b, s) => {
+        Plan::TakeSlot(g, b, s) => {
             return slot_given(g, b, s, bytes);
         }
-        Plan::NewRun(g, b) => {
+        Plan::NewClass(g, b) => {
             return slot_given(g, b, 0, bytes);
         }
-        Plan::NewLarge(g, n) => {
-            let pages = widths::wide64(n);
+        Plan::NewLarge(g, k) => {
+            let pages = widths::wide64(k + 1);
             let first = widths::wide64(g);
             return Reserved {
                 refusal: 0,

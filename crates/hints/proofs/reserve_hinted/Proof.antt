@@ -52,10 +52,10 @@ same-length-4 c = search needs
 
 returns : tie.Need-returns
 returns c =
-    let d = c .before .before .before .before in
-    let e = d .before .before .before .before .before .before .before .before .before .before .before .before in let f = e .before in (
-      attempted _ _ _ (plan-small _ _ _ _ _ (f .if1 .taken) (e .class-of .ensures) refl) (d .take-slot .ensures .0),
-      d .take-slot .ensures .1,
+    let taken = c .before .before .before .before .before .before in
+    let class = taken .before .before .before .before .before .before .before .before .before .before .before .before in (
+      attempted _ _ _ (plan-small _ _ _ _ _ (class .before .if1 .taken) (class .class-of .ensures) refl) (taken .take-slot .ensures .0),
+      taken .take-slot .ensures .1,
     )
 
 plan-slot-requires : tie.Need-plan-slot-requires

@@ -1,9 +1,8 @@
 -- `release::area_at` meets its contract. Assumes nothing.
-use mathlib.Core.Path.{sym}
 use native.Mathlib.Omega.{arith}
 use Rattle.records.proofs.AdmitLaws.{admitted}
 use Rattle.records.proofs.KindLaws.{others-bare}
-use Rattle.records.proofs.RunLaws.{large-at-low, lies-as}
+use Rattle.records.proofs.RunLaws.{lies-as}
 use Rattle.release.proofs.SpotLaws.{spot-outside, lies-class, lies-first, lies-behind, lies-bare}
 use borrow.Author.Needs.{needs}
 use Rattle.release.proofs.area_at.Statement.{statement}
@@ -15,29 +14,16 @@ mul-if1 c = let s = admitted _ _ (c .before .before .before .pre) .shape in reco
 returns : tie.Need-returns
 returns c = spot-outside _ _ _ (c .if1 .taken)
 
-home-at-requires : tie.Need-home-at-requires
-home-at-requires c κs = search needs
-
-enum-known-kind : tie.Need-enum-known-kind
-enum-known-kind c = search needs
-
 returns-2 : tie.Need-returns-2
 returns-2 c =
     let d = c .before .before .before in
     lies-class _ _ (d .before .before .before .before .before .pre) _ (omega arith) _ _ (lies-as (c .before .kind .given .1) (d .home-at .ensures))
 
-enum-known-kind-2 : tie.Need-enum-known-kind-2
-enum-known-kind-2 c = search needs
-
-add-t18 : tie.Need-add-t18
-add-t18 c = let d = c .before .before .before .before in
-    let k = large-at-low _ _ _ (sym (lies-as (c .before .before .kind2 .given .1) (d .home-at .ensures) .is)) in record { fits = omega arith }
-
 returns-3 : tie.Need-returns-3
 returns-3 c =
     let d = c .before .before .before .before in
     lies-first _ _ (d .before .before .before .before .before .pre) _ (omega arith) _ _ (lies-as (c .before .before .kind2 .given .1)
-    (d .home-at .ensures)) (c .if2 .taken) _ (omega arith)
+    (d .home-at .ensures)) (c .if2 .taken)
 
 returns-4 : tie.Need-returns-4
 returns-4 c =
@@ -55,13 +41,4 @@ pub area-at-spec : {M : Type 1} → statement M
 area-at-spec =
     tie.close
     (tie.spec
-    mul-if1
-    returns
-    home-at-requires
-    enum-known-kind
-    returns-2
-    enum-known-kind-2
-    add-t18
-    returns-3
-    returns-4
-    returns-5)
+    mul-if1 returns (λ c κs. search needs) (λ c. search needs) returns-2 (λ c. search needs) returns-3 returns-4 returns-5)

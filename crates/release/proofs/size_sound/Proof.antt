@@ -2,6 +2,7 @@
 use mathlib.Core.Path.{refl, ap, _∙_}
 use Prim.Native.Nat.{ℕ, _*_}
 use native.Mathlib.Omega.{arith}
+use native.Mathlib.Numerals.{add-one}
 use Rattle.classes.proofs.ClassLaws.{size-read}
 use Rattle.records.proofs.AdmitLaws.{admitted}
 use Rattle.records.proofs.RunLaws.{class-at-low}
@@ -11,45 +12,32 @@ use borrow.Author.Needs.{needs}
 use Rattle.release.proofs.size_sound.Statement.{statement}
 use Rattle.release.proofs.size_sound.Tie as tie
 
-spot-at-requires : tie.Need-spot-at-requires
-spot-at-requires c κs = search needs
-
-enum-known-r : tie.Need-enum-known-r
-enum-known-r c = search needs
-
 returns : tie.Need-returns
 returns c = size-as (c .before .r .given .1) (c .before .before .before .spot-at .ensures) refl
 
-enum-known-g : tie.Need-enum-known-g
-enum-known-g c = search needs
+add-n : tie.Need-add-n
+add-n c =
+    let matched = c .before in let found-at = matched .before .before in let start = found-at .before .before .before .before in
+    let a = admitted _ _ (start .pre) in let h = a .shape in
+    let r : RunAt _ _ _ _ _ = found _ _ _ (found-at .spot-at .ensures) (matched .g .given .1) in
+    let e = large-ends _ _ (a .whole) r in record { fits = omega arith }
 
-wide64-requires : tie.Need-wide64-requires
-wide64-requires c κs = search needs
-
-mul-t15 : tie.Need-mul-t15
-mul-t15 c =
-    let d = c .before .before .before .before .before .before .before .before in let a = admitted _ _ (d .pre) in let h = a .shape in
-    let r : RunAt _ _ _ _ _ = found _ _ _ (c .before .before .before .before .spot-at .ensures) (c .before .before .g .given .1) in
+mul-t16 : tie.Need-mul-t16
+mul-t16 c =
+    let matched = c .before .before in let found-at = matched .before .before in let start = found-at .before .before .before .before in
+    let a = admitted _ _ (start .pre) in let h = a .shape in
+    let r : RunAt _ _ _ _ _ = found _ _ _ (found-at .spot-at .ensures) (matched .g .given .1) in
     let e = large-ends _ _ (a .whole) r in let n = c .wide64 .ensures in record { fits = omega arith }
 
 returns-2 : tie.Need-returns-2
 returns-2 c =
-    size-as (c .before .before .g .given .1) (c .before .before .before .before .spot-at .ensures) (ap (λ (n : ℕ). sized 0 (4096 * n))
-    (c .wide64 .ensures))
-
-enum-known-g-2 : tie.Need-enum-known-g-2
-enum-known-g-2 c = search needs
+    let matched = c .before .before in
+    size-as (matched .g .given .1) (matched .before .before .spot-at .ensures) (ap (λ (n : ℕ). sized 0 (4096 * n)) (c .wide64 .ensures ∙ add-one _))
 
 class-row-requires : tie.Need-class-row-requires
 class-row-requires c κs =
     let r : SlotAt _ _ _ _ _ _ = found _ _ _ (c .before .before .before .spot-at .ensures) (c .before .g2 .given .1) in
     class-at-low _ _ _ (r .kind)
-
-wide16-requires : tie.Need-wide16-requires
-wide16-requires c κs = search needs
-
-wide64-requires-2 : tie.Need-wide64-requires-2
-wide64-requires-2 c κs = search needs
 
 returns-3 : tie.Need-returns-3
 returns-3 c =
@@ -61,15 +49,5 @@ pub size-sound-spec : {M : Type 1} → statement M
 size-sound-spec =
     tie.close
     (tie.spec
-    spot-at-requires
-    enum-known-r
-    returns
-    enum-known-g
-    wide64-requires
-    mul-t15
-    returns-2
-    enum-known-g-2
-    class-row-requires
-    wide16-requires
-    wide64-requires-2
-    returns-3)
+    (λ c κs. search needs) (λ c. search needs) returns (λ c. search needs) add-n (λ c κs. search needs) mul-t16 returns-2
+    (λ c. search needs) class-row-requires (λ c κs. search needs) (λ c κs. search needs) returns-3)

@@ -21,9 +21,6 @@ returns-2 c =
     let d = c .before .before .before in
     slot-behind _ _ _ _ (record { size-is = d .pre .3; slots-is = d .pre .4 }) (c .before .if1 .left) (c .if2 .taken)
 
-mul-is-set : tie.Need-mul-is-set
-mul-is-set c = search needs
-
 add-is-set : tie.Need-add-is-set
 add-is-set c =
     let d = c .before .before .before in let k : Cut _ _ _ = record { size-is = d .pre .3; slots-is = d .pre .4 } in let s = cut-few k in
@@ -47,15 +44,4 @@ returns-4 c =
     (c .before .before .if2 .left) (sym (c .before .is-set .ensures) ∙ c .if3 .left)
 
 pub slot-spot-spec : {M : Type 1} → statement M
-slot-spot-spec =
-    tie.close
-    (tie.spec
-    rem-if1
-    returns
-    div-s
-    returns-2
-    mul-is-set
-    add-is-set
-    is-set-requires
-    returns-3
-    returns-4)
+slot-spot-spec = tie.close (tie.spec rem-if1 returns div-s returns-2 (λ c. search needs) add-is-set is-set-requires returns-3 returns-4)

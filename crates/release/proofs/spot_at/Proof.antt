@@ -9,35 +9,17 @@ use native.Mathlib.Omega.{arith}
 use Rattle.release.proofs.spot_at.Statement.{statement}
 use Rattle.release.proofs.spot_at.Tie as tie
 
-area-at-requires : tie.Need-area-at-requires
-area-at-requires c κs = search needs
-
-enum-told : tie.Need-enum-told
-enum-told c = search needs
-
 returns : tie.Need-returns
 returns c = leads-as _ _ _ (c .enum-told .given .1) (c .before .before .area-at .ensures)
 
-enum-known-g : tie.Need-enum-known-g
-enum-known-g c = search needs
-
 returns-2 : tie.Need-returns-2
 returns-2 c = leads-as _ _ _ (c .before .g .given .1) (c .before .before .before .area-at .ensures)
-
-enum-known-g-2 : tie.Need-enum-known-g-2
-enum-known-g-2 c = search needs
 
 class-row-requires : tie.Need-class-row-requires
 class-row-requires c κs =
     let l : (_ < _) × (_ < 30) × (_ ≤ _) × (_ ≡ _) = leads-as _ _ _ (c .before .g2 .given .1)
     (c .before .before .before .area-at .ensures) in
     l .1
-
-wide16-requires : tie.Need-wide16-requires
-wide16-requires c κs = search needs
-
-wide16-requires-2 : tie.Need-wide16-requires-2
-wide16-requires-2 c κs = search needs
 
 mul-slot-spot : tie.Need-mul-slot-spot
 mul-slot-spot c =
@@ -77,16 +59,5 @@ pub spot-at-spec : {M : Type 1} → statement M
 spot-at-spec =
     tie.close
     (tie.spec
-    area-at-requires
-    enum-told
-    returns
-    enum-known-g
-    returns-2
-    enum-known-g-2
-    class-row-requires
-    wide16-requires
-    wide16-requires-2
-    mul-slot-spot
-    sub-slot-spot
-    slot-spot-requires
-    returns-3)
+    (λ c κs. search needs) (λ c. search needs) returns (λ c. search needs) returns-2 (λ c. search needs) class-row-requires
+    (λ c κs. search needs) (λ c κs. search needs) mul-slot-spot sub-slot-spot slot-spot-requires returns-3)

@@ -1,5 +1,5 @@
 -- `reserve::answer_of` meets its contract. Assumes nothing.
-use Prim.Native.Nat.{_<_, _≤_}
+use Prim.Native.Nat.{_<_}
 use Rattle.reserve.proofs.AnswerForms.{answer-as, low-as, size-of, large-is}
 use borrow.Author.Needs.{needs}
 use native.Mathlib.Omega.{arith}
@@ -39,22 +39,28 @@ returns-3 c = answer-as (c .before .before .x3 .given .1) (c .slot-given2 .ensur
 enum-known-x-4 : tie.Need-enum-known-x-4
 enum-known-x-4 c = search needs
 
+add-wide64 : tie.Need-add-wide64
+add-wide64 c =
+    let matched = c .before in
+    let r : (_ < 8192) × (_ < 511) = low-as (matched .x4 .given .1) (matched .before .before .pre .0) in let a = r .0 in let b = r .1 in
+    record { fits = omega arith }
+
 wide64-requires : tie.Need-wide64-requires
 wide64-requires c κs = search needs
 
 wide64-requires-2 : tie.Need-wide64-requires-2
 wide64-requires-2 c κs = search needs
 
-mul-t13 : tie.Need-mul-t13
-mul-t13 c =
-    let f = c .before .before .before .before .before in
-    let r : (_ < 8192) × (_ ≤ 511) = low-as (c .before .before .before .x4 .given .1) (f .pre .0) in let a = r .0 in let b = r .1 in
-    let d = c .wide642 .ensures in let e = c .before .wide64 .ensures in record { fits = omega arith }
-
 mul-t14 : tie.Need-mul-t14
 mul-t14 c =
-    let f = c .before .before .before .before .before in
-    let r : (_ < 8192) × (_ ≤ 511) = low-as (c .before .before .before .x4 .given .1) (f .pre .0) in let a = r .0 in let b = r .1 in
+    let matched = c .before .before .before in
+    let r : (_ < 8192) × (_ < 511) = low-as (matched .x4 .given .1) (matched .before .before .pre .0) in let a = r .0 in let b = r .1 in
+    let d = c .wide642 .ensures in let e = c .before .wide64 .ensures in record { fits = omega arith }
+
+mul-t15 : tie.Need-mul-t15
+mul-t15 c =
+    let matched = c .before .before .before in
+    let r : (_ < 8192) × (_ < 511) = low-as (matched .x4 .given .1) (matched .before .before .pre .0) in let a = r .0 in let b = r .1 in
     let d = c .wide642 .ensures in let e = c .before .wide64 .ensures in record { fits = omega arith }
 
 returns-4 : tie.Need-returns-4
@@ -74,8 +80,9 @@ answer-of-spec =
     slot-given-requires-2
     returns-3
     enum-known-x-4
+    add-wide64
     wide64-requires
     wide64-requires-2
-    mul-t13
     mul-t14
+    mul-t15
     returns-4)

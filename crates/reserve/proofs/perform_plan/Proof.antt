@@ -1,11 +1,11 @@
 -- `reserve::perform_plan` meets its contract. Assumes nothing.
+use borrow.Author.Needs.{needs}
 use mathlib.Core.Path.{refl}
 use Prim.Native.Nat.{_<_}
 use native.Mathlib.Omega.{arith}
 use Rattle.records.proofs.AdmitLaws.{admitted}
 use Rattle.reserve.specs.Plans.{SlotFree, PagesFree}
-use Rattle.reserve.proofs.StoreForms.{ok-as, perform-as, slot-few, in-run-is, free-words, new-large-is}
-use borrow.Author.Needs.{needs}
+use Rattle.reserve.proofs.StoreForms.{ok-as, perform-as, slot-few, class-taken, free-words}
 use Rattle.reserve.proofs.perform_plan.Statement.{statement}
 use Rattle.reserve.proofs.perform_plan.Tie as tie
 
@@ -18,40 +18,14 @@ returns c = perform-as _ (c .before .x .given .1) refl
 enum-known-x-2 : tie.Need-enum-known-x-2
 enum-known-x-2 c = search needs
 
-mul-put-bit : tie.Need-mul-put-bit
-mul-put-bit c =
-    let d = c .before .before .before .before .before .before .before in let a = admitted _ _ (d .pre .0) in let h = a .shape in
-    let r : SlotFree _ _ _ _ _ = ok-as _ _ (c .before .before .x2 .given .1) (d .pre .1) in let k = slot-few r in let g = r .inside in
-    record { fits = omega arith }
-
-add-put-bit : tie.Need-add-put-bit
-add-put-bit c =
-    let d = c .before .before .before .before .before .before .before in let a = admitted _ _ (d .pre .0) in let h = a .shape in
-    let r : SlotFree _ _ _ _ _ = ok-as _ _ (c .before .before .x2 .given .1) (d .pre .1) in let k = slot-few r in let g = r .inside in
-    record { fits = omega arith }
-
-put-bit-requires : tie.Need-put-bit-requires
-put-bit-requires c κs =
-    let d = c .before .before .before .before .before .before .before in let a = admitted _ _ (d .pre .0) in let h = a .shape in
-    let r : SlotFree _ _ _ _ _ = ok-as _ _ (c .before .before .x2 .given .1) (d .pre .1) in let k = slot-few r in let g = r .inside in
-    omega arith
+put-slot-requires : tie.Need-put-slot-requires
+put-slot-requires c κs =
+    let matched = c .before .before .before .before in let start = matched .before .before .before .before .before in
+    let h = admitted _ _ (start .pre .0) .shape in
+    let r : SlotFree _ _ _ _ _ = ok-as _ _ (matched .x2 .given .1) (start .pre .1) in let i = r .inside in (omega arith, slot-few r, omega arith)
 
 same-length : tie.Need-same-length
 same-length c = search needs
-
-returns-2 : tie.Need-returns-2
-returns-2 c =
-    let d = c .before .before .before .before .before in
-    perform-as _ (d .x2 .given .1) (in-run-is _ _ (d .x2 .given .0 .1 .0) _ _ (c .before .before .put-bit .ensures))
-
-enum-known-x-3 : tie.Need-enum-known-x-3
-enum-known-x-3 c = search needs
-
-new-run-requires : tie.Need-new-run-requires
-new-run-requires c κs =
-    let d = c .before .before .before .before .before .before .before .before .before in let a = admitted _ _ (d .pre .0) in
-    let h = a .shape in let r : (_ < 30) × PagesFree _ _ _ _ = ok-as _ _ (c .before .before .before .before .x3 .given .1) (d .pre .1) in
-    let i = r .1 .inside in let k = r .1 .some in (r .0, omega arith, omega arith, omega arith, omega arith)
 
 same-length-2 : tie.Need-same-length-2
 same-length-2 c = search needs
@@ -59,22 +33,28 @@ same-length-2 c = search needs
 same-length-3 : tie.Need-same-length-3
 same-length-3 c = search needs
 
+returns-2 : tie.Need-returns-2
+returns-2 c = let stored = c .before .before .before .before in perform-as _ (stored .before .before .before .before .before .x2 .given .1) (stored .put-slot .ensures)
+
+enum-known-x-3 : tie.Need-enum-known-x-3
+enum-known-x-3 c = search needs
+
+put-class-requires : tie.Need-put-class-requires
+put-class-requires c κs =
+    let matched = c .before .before .before .before in let start = matched .before .before .before .before .before in
+    let h = admitted _ _ (start .pre .0) .shape in
+    let r : (_ < 30) × PagesFree _ _ _ _ = ok-as _ _ (matched .x3 .given .1) (start .pre .1) in let i = r .1 .inside in
+    (r .0, omega arith, omega arith, omega arith)
+
+put-slot-requires-2 : tie.Need-put-slot-requires-2
+put-slot-requires-2 c κs =
+    let matched = c .before .before .before .before .before .before .before .before .before .before .before .before in let start = matched .before .before .before .before .before in
+    let h = admitted _ _ (start .pre .0) .shape in
+    let r : (_ < 30) × PagesFree _ _ _ _ = ok-as _ _ (matched .x3 .given .1) (start .pre .1) in let i = r .1 .inside in let k = r .1 .some in
+    (omega arith, omega arith, omega arith)
+
 same-length-4 : tie.Need-same-length-4
 same-length-4 c = search needs
-
-returns-3 : tie.Need-returns-3
-returns-3 c =
-    let d = c .before .before .before .before .before .before in let e = d .before .before .before .before .before in
-    perform-as _ (e .x3 .given .1) (d .new-run .ensures)
-
-enum-known-x-4 : tie.Need-enum-known-x-4
-enum-known-x-4 c = search needs
-
-new-large-requires : tie.Need-new-large-requires
-new-large-requires c κs =
-    let d = c .before .before .before .before .before .before .before .before in let a = admitted _ _ (d .pre .0) in let h = a .shape in
-    let r : PagesFree _ _ _ _ = ok-as _ _ (c .before .before .before .x4 .given .1) (d .pre .1) in let i = r .inside in
-    (r .some, r .few, omega arith, omega arith, omega arith, free-words r)
 
 same-length-5 : tie.Need-same-length-5
 same-length-5 c = search needs
@@ -82,11 +62,32 @@ same-length-5 c = search needs
 same-length-6 : tie.Need-same-length-6
 same-length-6 c = search needs
 
+returns-3 : tie.Need-returns-3
+returns-3 c =
+    let taken = c .before .before .before .before in let stored = taken .before .before .before .before .before .before .before .before in
+    perform-as _ (stored .before .before .before .before .before .x3 .given .1) (class-taken _ _ _ (stored .put-class .ensures) (taken .put-slot2 .ensures))
+
+enum-known-x-4 : tie.Need-enum-known-x-4
+enum-known-x-4 c = search needs
+
+put-large-requires : tie.Need-put-large-requires
+put-large-requires c κs =
+    let matched = c .before .before .before .before in let start = matched .before .before .before .before .before in
+    let h = admitted _ _ (start .pre .0) .shape in
+    let r : PagesFree _ _ _ _ = ok-as _ _ (matched .x4 .given .1) (start .pre .1) in let i = r .inside in let f = r .few in
+    (omega arith, omega arith, omega arith, omega arith, free-words r)
+
+same-length-7 : tie.Need-same-length-7
+same-length-7 c = search needs
+
+same-length-8 : tie.Need-same-length-8
+same-length-8 c = search needs
+
+same-length-9 : tie.Need-same-length-9
+same-length-9 c = search needs
+
 returns-4 : tie.Need-returns-4
-returns-4 c =
-    let d = c .before .before .before .before in let e = d .before .before .before .before in
-    let f = e .before .before .before .before .before in let r : PagesFree _ _ _ _ = ok-as _ _ (e .x4 .given .1) (f .pre .1) in
-    perform-as _ (e .x4 .given .1) (new-large-is _ _ _ (r .some) _ _ (d .new-large .ensures .0) (d .new-large .ensures .1))
+returns-4 c = let stored = c .before .before .before .before in perform-as _ (stored .before .before .before .before .before .x4 .given .1) (stored .put-large .ensures)
 
 pub perform-plan-spec : {M : Type 1} → statement M
 perform-plan-spec =
@@ -95,19 +96,21 @@ perform-plan-spec =
     enum-known-x
     returns
     enum-known-x-2
-    mul-put-bit
-    add-put-bit
-    put-bit-requires
+    put-slot-requires
     same-length
-    returns-2
-    enum-known-x-3
-    new-run-requires
     same-length-2
     same-length-3
+    returns-2
+    enum-known-x-3
+    put-class-requires
+    put-slot-requires-2
     same-length-4
-    returns-3
-    enum-known-x-4
-    new-large-requires
     same-length-5
     same-length-6
+    returns-3
+    enum-known-x-4
+    put-large-requires
+    same-length-7
+    same-length-8
+    same-length-9
     returns-4)

@@ -1,12 +1,12 @@
--- `reserve::class_words` meets its contract. Assumes nothing.
+-- `blocks::class_words` meets its contract. Assumes nothing.
 use borrow.Author.Needs.{needs}
 use mathlib.Core.Path.{refl, _∙_}
 use Prim.Native.Nat.{_-_, _≤_}
 use native.Mathlib.Omega.{arith}
 use lib.ListN.{length-set}
-use Rattle.reserve.proofs.StoreForms.{Written, written-none, written-on, written-all, run-pages}
-use Rattle.reserve.proofs.class_words.Statement.{statement}
-use Rattle.reserve.proofs.class_words.Tie as tie
+use Rattle.blocks.proofs.StoreForms.{Written, written-none, written-on, written-all, run-pages}
+use Rattle.blocks.proofs.class_words.Statement.{statement}
+use Rattle.blocks.proofs.class_words.Tie as tie
 
 abbrev Inv-loop : tie.InvT-loop
 Inv-loop words₀ g b n k₀ words k = (1 ≤ k) × (n ≤ 7) × (Written words words₀ g b n k)
@@ -14,37 +14,16 @@ Inv-loop words₀ g b n k₀ words k = (1 ≤ k) × (n ≤ 7) × (Written words 
 abbrev μ-loop : tie.MeasureT-loop
 μ-loop words₀ g b n k₀ words k = n - k
 
-class-word-requires : tie.Need-class-word-requires Inv-loop μ-loop
-class-word-requires c κs = search needs
-
-mul-words : tie.Need-mul-words Inv-loop μ-loop
-mul-words c = search needs
-
 slice-write-words : tie.Need-slice-write-words Inv-loop μ-loop
 slice-write-words c = let e = c .before .before .pre in let k = run-pages (e .2) (e .3) in omega arith
 
 loop-holds : tie.Need-loop-holds Inv-loop μ-loop
 loop-holds c = let e = c .before .before .pre in let k = run-pages (e .2) (e .3) in (omega arith, omega arith, written-none _ _ _ _)
 
-inner-word-requires : tie.Need-inner-word-requires Inv-loop μ-loop
-inner-word-requires c κs = search needs
-
-add-words : tie.Need-add-words Inv-loop μ-loop
-add-words c = search needs
-
-mul-words-2 : tie.Need-mul-words-2 Inv-loop μ-loop
-mul-words-2 c = search needs
-
 slice-write-words-2 : tie.Need-slice-write-words-2 Inv-loop μ-loop
 slice-write-words-2 c =
     let d = c .before .before .before in let e = d .before .before .args in
     let w = c .before .before .loop .inv .2 .long in omega (arith, length-set (e .words .now) (e .g) (d .class-word .result))
-
-add-k : tie.Need-add-k Inv-loop μ-loop
-add-k c = search needs
-
-loop-less : tie.Need-loop-less Inv-loop μ-loop
-loop-less c = search needs
 
 loop-again : tie.Need-loop-again Inv-loop μ-loop
 loop-again c = (omega arith, omega arith, written-on (c .before .before .loop .inv .2) (omega arith) _ (c .inner-word .ensures))
@@ -63,18 +42,5 @@ pub class-words-spec : {M : Type 1} → statement M
 class-words-spec =
     tie.close
     (tie.spec
-    Inv-loop
-    μ-loop
-    class-word-requires
-    mul-words
-    slice-write-words
-    loop-holds
-    inner-word-requires
-    add-words
-    mul-words-2
-    slice-write-words-2
-    add-k
-    loop-less
-    loop-again
-    same-length
-    returns)
+    Inv-loop μ-loop (λ c κs. search needs) (λ c. search needs) slice-write-words loop-holds (λ c κs. search needs) (λ c. search needs)
+    (λ c. search needs) slice-write-words-2 (λ c. search needs) (λ c. search needs) loop-again same-length returns)
