@@ -24,7 +24,7 @@ use Rattle.records.specs.Pool.{Pool, kindAt, slotAt}
 use Rattle.records.specs.Sound.{all, named, clean}
 use Rattle.records.proofs.Flags.{flag-eq, and-made, and-left, and-right, all-at, all-of}
 use Rattle.admit.specs.Masks.{strayMask, maskRow, masksOf, maskTable}
-use Rattle.admit.specs.Sweep.{wordClear, slotsClear, Behinds}
+use Rattle.admit.specs.Pages.{wordClear, slotsClear, Behinds}
 
 -- ---- the OR of words
 

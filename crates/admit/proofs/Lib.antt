@@ -1,3 +1,3 @@
 pub mod Clear
 pub mod Steps
-pub mod Sweeps
+pub mod PageLaws

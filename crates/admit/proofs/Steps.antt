@@ -15,16 +15,16 @@ use Rattle.records.specs.Kinds.{kindOf, zeros, behind, innerWords, slotsOf}
 use Rattle.records.specs.Sound.{step}
 use Rattle.records.proofs.Flags.{cond-eq, cond-ne, eq-cases, lt-cases, le-cases}
 use Rattle.records.proofs.KindLaws.{kind-inner, kind-zero, kind-class, kind-large, kind-no-class, kind-no-large, kind-no-low}
-use Rattle.admit.specs.Sweep.{after, coming, slotsClear, Ready, outcome, Paged}
+use Rattle.admit.specs.Pages.{nextWord, coming, slotsClear, Ready, outcome, Paged}
 
 -- ---- the words to come
 
-pub after-zero : (d : ℕ) → d ≡ 0 → 0 ≡ after d
-unfolding after
+pub after-zero : (d : ℕ) → d ≡ 0 → 0 ≡ nextWord d
+unfolding nextWord
 after-zero d e = sym (cond-eq d 0 0 (d + 65536) e)
 
-pub after-more : (d : ℕ) → d ≢ 0 → d + 65536 ≡ after d
-unfolding after
+pub after-more : (d : ℕ) → d ≢ 0 → d + 65536 ≡ nextWord d
+unfolding nextWord
 after-more d e = sym (cond-ne d 0 0 (d + 65536) e)
 
 coming-zeros : (k : ℕ) → zeros k ≡ coming 0 k
@@ -47,7 +47,7 @@ ready-none = record { near = omega arith; inner = λ n. absurd (n refl) }
 inner-kind : (left d : ℕ) → Ready left d → kindOf false true d ≡ Inner d
 inner-kind left d r = by-cases (ℕ-discrete d 0) (λ e. kind-zero d e) (λ e. kind-inner d (r .inner e))
 
-ready-after : (left d x : ℕ) → Ready left d → left ≢ 0 → x ≡ after d → Ready (left - 1) x
+ready-after : (left d x : ℕ) → Ready left d → left ≢ 0 → x ≡ nextWord d → Ready (left - 1) x
 ready-after left d x r l e =
     let n = r .near in
     by-cases (ℕ-discrete d 0)
@@ -100,7 +100,7 @@ module _ (ss : List ℕ) (g left due w : ℕ) (ok : Bool) (left′ due′ x : �
     where
       go : (n : ℕ) → n ≢ 0 → step (coming due n) (kindOf false t w) ≡ none
       go zero l = absurd (l refl)
-      go (suc n) l = f (coming (after due) n)
+      go (suc n) l = f (coming (nextWord due) n)
 
   between : (t : Bool) → step [] (kindOf false t w) ≡ none → left ≡ 0 → Paged ss g left due w t ok left′ due′ x
   unfolding coming
@@ -151,7 +151,7 @@ module _ (ss : List ℕ) (g left due w : ℕ) (x : ℕ) where
       begun true _ (w - 0x40000001) 0 l (kind-large w a b) (ap some (coming-zeros (w - 0x40000001))) c
       (record { near = omega arith; inner = λ m. absurd (m refl) })
 
-  pub is-inner : (d : ℕ) → Ready left due → left ≢ 0 → w ≡ due → eqb x 0 ≡ slotsClear ss g 0 → d ≡ after due → Paged ss g left due w true true (left - 1) d x
+  pub is-inner : (d : ℕ) → Ready left due → left ≢ 0 → w ≡ due → eqb x 0 ≡ slotsClear ss g 0 → d ≡ nextWord due → Paged ss g left due w true true (left - 1) d x
   unfolding outcome coming
   is-inner d r l e c f =
       let k : kindOf false true w ≡ Inner due = ap (kindOf false true) e ∙ inner-kind left due r in

@@ -1,2 +1,2 @@
 pub mod Masks
-pub mod Sweep
+pub mod Pages

@@ -13,7 +13,7 @@ ghost use Rattle.records.specs.Lent.{before};
 ghost use Rattle.records.specs.Sound.{soundFrom};
 ghost use Rattle.records.specs.Calls.{admitOf};
 ghost use Rattle.admit.specs.Masks.{maskTable};
-ghost use Rattle.admit.specs.Sweep.{after, slotsClear, Behinds, Ready, Paged, Swept};
+ghost use Rattle.admit.specs.Pages.{nextWord, slotsClear, Behinds, Ready, Paged, Checked};
 
 mod masks;
 
@@ -83,9 +83,9 @@ fn wrong() -> PageStep
 }
 
 // The word of the next page inside a run: large runs have zeros there, class runs count up.
-fn after_word(due: u32) -> u32
+fn next_word(due: u32) -> u32
     requires { ⌜ due + 65536 < 4294967296 ⌝ }
-    ensures { λ r. ⌜ r ≡ after due ⌝ }
+    ensures { λ r. ⌜ r ≡ nextWord due ⌝ }
 {
     if due == 0 {
         return 0;
@@ -125,7 +125,7 @@ fn page(
             return wrong();
         }
         let x = any_slot(slots, g);
-        let d = after_word(due);
+        let d = next_word(due);
         return PageStep {
             ok: true,
             left: left - 1,
@@ -191,7 +191,7 @@ pub struct State {
 }
 
 // The 64 pages of page-bit word i.
-fn mixed_block(
+fn mixed_64(
     bits: &[u64],
     words: &[u32],
     slots: &[u64],
@@ -202,7 +202,7 @@ fn mixed_block(
     behinds: &[u32; 30],
 ) -> State
     requires { ⌜ (i < 128) × (i < length (now bits)) × (64 * i + 64 ≤ length (now words)) × (512 * i + 512 ≤ length (now slots)) × (now masks ≡ maskTable) × (Behinds (now behinds)) × (Ready left due) ⌝ }
-    ensures { λ r. ⌜ Swept (before bits words slots) i left due (r .ok) (r .left) (r .due) ⌝ }
+    ensures { λ r. ⌜ Checked (before bits words slots) i left due (r .ok) (r .left) (r .due) ⌝ }
 {
     if !edge_ok(i, left, words[64 * i]) {
         return State {
@@ -241,9 +241,9 @@ fn mixed_block(
 }
 
 // The 64 pages of page-bit word i, between runs, where the word is 0 and no chunk begins: all are free, with no slot bit.
-fn free_block(bits: &[u64], words: &[u32], slots: &[u64], i: usize) -> bool
+fn free_64(bits: &[u64], words: &[u32], slots: &[u64], i: usize) -> bool
     requires { ⌜ (i < 128) × (i % 8 ≡ 0 → ⊥) × (getD (now bits) i 0 ≡ 0) × (64 * i + 64 ≤ length (now words)) × (512 * i + 512 ≤ length (now slots)) ⌝ }
-    ensures { λ r. ⌜ Swept (before bits words slots) i 0 0 r 0 0 ⌝ }
+    ensures { λ r. ⌜ Checked (before bits words slots) i 0 0 r 0 0 ⌝ }
 {
     let mut acc: u64 = 0;
     let mut p = 0;
@@ -258,7 +258,7 @@ fn free_block(bits: &[u64], words: &[u32], slots: &[u64], i: usize) -> bool
 }
 
 // The 64 pages of page-bit word i. Free ones take the shorter way, which has no branch a page.
-fn block(
+fn pages_64(
     bits: &[u64],
     words: &[u32],
     slots: &[u64],
@@ -269,12 +269,12 @@ fn block(
     behinds: &[u32; 30],
 ) -> State
     requires { ⌜ (i < 128) × (i < length (now bits)) × (64 * i + 64 ≤ length (now words)) × (512 * i + 512 ≤ length (now slots)) × (now masks ≡ maskTable) × (Behinds (now behinds)) × (Ready left due) ⌝ }
-    ensures { λ r. ⌜ Swept (before bits words slots) i left due (r .ok) (r .left) (r .due) ⌝ }
+    ensures { λ r. ⌜ Checked (before bits words slots) i left due (r .ok) (r .left) (r .due) ⌝ }
 {
     if left == 0 {
         if i % 8 != 0 {
             if bits[i] == 0 {
-                let ok = free_block(bits, words, slots, i);
+                let ok = free_64(bits, words, slots, i);
                 return State {
                     ok: ok,
                     left: 0,
@@ -283,7 +283,7 @@ fn block(
             }
         }
     }
-    mixed_block(bits, words, slots, i, left, due, masks, behinds)
+    mixed_64(bits, words, slots, i, left, due, masks, behinds)
 }
 
 // The pages of n page-bit words.
@@ -297,7 +297,7 @@ fn pages_sound(bits: &[u64], words: &[u32], slots: &[u64], n: usize) -> bool
     let mut due: u32 = 0;
     let mut i = 0;
     while i < n {
-        let s = block(bits, words, slots, i, left, due, &masks, &behinds);
+        let s = pages_64(bits, words, slots, i, left, due, &masks, &behinds);
         if !s.ok {
             return false;
         }

@@ -12,7 +12,7 @@ use Rattle.refusals.proofs.CallLaws.{refused, served}
 use Rattle.text.specs.Text.{Appends}
 use Rattle.text.proofs.TextLaws.{appends-none, appends-more, appends-length}
 use Rattle.totals.specs.declared.Sums.{Sums}
-use Rattle.totals.specs.Totals.{tallied}
+use Rattle.totals.specs.Totals.{summed}
 use Rattle.records.specs.Calls.{admitOf, Left, leaves}
 use Rattle.records.proofs.Flags.{cond-lt, cond-nlt}
 use Rattle.records.specs.Pool.{Pool}
@@ -88,12 +88,12 @@ room-whole v c h = h
 
 module _ (v : Bool) (c : ℕ) (p : Pool) {o a b d : List ℕ} {i j k : ℕ} (x : Appends o a 0 i (headOf v c))
     (y : Appends a b i j (pagesFrom v p noCell 0 (512 * c))) where
-  pub draw-made : {t : Sums} {n : ℕ} → t ≡ tallied c p → Appends b d j k (footOf v c t) → n ≡ k → leaves (drawnAs 0 n) d ≡ showing v c p o
+  pub draw-made : {t : Sums} {n : ℕ} → t ≡ summed c p → Appends b d j k (footOf v c t) → n ≡ k → leaves (drawnAs 0 n) d ≡ showing v c p o
   unfolding showing drawing
   draw-made {t} {n} e z f =
-      let w : Appends o d 0 k (headOf v c ++ (pagesFrom v p noCell 0 (512 * c) ++ footOf v c (tallied c p))) =
+      let w : Appends o d 0 k (headOf v c ++ (pagesFrom v p noCell 0 (512 * c) ++ footOf v c (summed c p))) =
       appends-more x (appends-more y (rw (← e) z)) in
-      let l : n ≡ length (headOf v c ++ (pagesFrom v p noCell 0 (512 * c) ++ footOf v c (tallied c p))) = omega (arith, f, w .next) in
+      let l : n ≡ length (headOf v c ++ (pagesFrom v p noCell 0 (512 * c) ++ footOf v c (summed c p))) = omega (arith, f, w .next) in
       rw (← l, ← w .text)
 
 -- ---- the call

@@ -10,7 +10,7 @@ use Rattle.bitrow.specs.Row.{digit}
 use Rattle.records.specs.Pool.{Pool}
 use Rattle.records.specs.Calls.{admitOf, Left, leaves}
 use Rattle.totals.specs.declared.Sums.{Sums}
-use Rattle.totals.specs.Totals.{tallied}
+use Rattle.totals.specs.Totals.{summed}
 use Rattle.text.specs.Ascii.{ascii}
 use Rattle.text.specs.Text.{filled}
 use Rattle.cells.specs.declared.Cell.{Cell}
@@ -102,7 +102,7 @@ pagesFrom v p last g (suc n) = pageOf v g (cellAt p last g) ++ pagesFrom v p (ce
 
 -- the drawing of sound records
 unfoldable pub drawing : Bool → ℕ → Pool → List ℕ
-drawing v c p = headOf v c ++ (pagesFrom v p noCell 0 (512 * c) ++ footOf v c (tallied c p))
+drawing v c p = headOf v c ++ (pagesFrom v p noCell 0 (512 * c) ++ footOf v c (summed c p))
 
 -- room that is enough: for the head, for a page, for the foot, for a pool of c chunks
 abbrev pub headRoom : Bool → ℕ

@@ -1,2 +1,2 @@
-pub mod TallyLaws
+pub mod AmountLaws
 pub mod PageLaws

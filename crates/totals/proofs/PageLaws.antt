@@ -21,11 +21,11 @@ use Rattle.records.proofs.RunLaws.{begins-run}
 use Rattle.records.proofs.WordLaws.{page-word, page-large, page-inside, page-edge, page-free}
 use Rattle.records.proofs.AdmitLaws.{admitted}
 use Rattle.blocks.specs.Blocks.{live}
-use Rattle.totals.specs.declared.Tally.{Tally}
+use Rattle.totals.specs.declared.Amount.{Amount}
 use Rattle.totals.specs.declared.Sums.{Sums}
-use Rattle.totals.specs.Totals.{tallyOf, sum, freeOf, freePages, runPages, totalled, tallied, totalsOf}
+use Rattle.totals.specs.Totals.{amountOf, sum, freeOf, freePages, runPages, totalled, summed, totalsOf}
 use Rattle.totals.specs.Means.{TotalsMean}
-use Rattle.totals.proofs.TallyLaws.{digit-set}
+use Rattle.totals.proofs.AmountLaws.{digit-set}
 
 -- ---- free pages are those whose page bit is 0
 
@@ -62,19 +62,19 @@ free-read c p ok n t e f =
     let h = free-count c p (admitted c p ok .whole) 0 (512 * c) (omega arith) in
     let g : t ≡ countBits (p .bits) 0 (512 * c) = f ∙ ap (countBits (p .bits) 0) e in omega arith
 
-pub totals-made : (c : ℕ) (p : Pool) {t : Tally} (m n k f : ℕ) → t ≡ tallyOf (live c p) → m ≡ t .blocks → n ≡ t .bytes → f ≡ k → k ≡ freePages c p
-    → totalled 0 m n f ≡ tallied c p
-unfolding tallied tallyOf
+pub totals-made : (c : ℕ) (p : Pool) {t : Amount} (m n k f : ℕ) → t ≡ amountOf (live c p) → m ≡ t .blocks → n ≡ t .bytes → f ≡ k → k ≡ freePages c p
+    → totalled 0 m n f ≡ summed c p
+unfolding summed amountOf
 totals-made c p m n k f e x y z w =
-    let a = x ∙ ap (λ (t : Tally). t .blocks) e in
-    let b = y ∙ ap (λ (t : Tally). t .bytes) e in
+    let a = x ∙ ap (λ (t : Amount). t .blocks) e in
+    let b = y ∙ ap (λ (t : Amount). t .bytes) e in
     ap₂ (λ (u v : ℕ). totalled 0 u v f) a b ∙ ap (totalled 0 _ _) (z ∙ w)
 
 -- behind the check
 module _ (c : ℕ) (p : Pool) (n : ℕ) (e : n ≡ admitOf c p) where
-  pub totals-served : n ≡ 0 → {x : Sums} → x ≡ tallied c p → x ≡ totalsOf c p
+  pub totals-served : n ≡ 0 → {x : Sums} → x ≡ summed c p → x ≡ totalsOf c p
   unfolding totalsOf
-  totals-served z f = f ∙ served (admitOf c p) n (λ r. totalled r 0 0 0) (tallied c p) e z
+  totals-served z f = f ∙ served (admitOf c p) n (λ r. totalled r 0 0 0) (summed c p) e z
 
 -- ---- each page is free, in a run, or page 0 of its chunk
 

@@ -9,7 +9,7 @@ use Rattle.records.specs.declared.Kind.the-variants.{Edge, Free, Damaged, Large
 use Rattle.records.specs.Pool.{Pool, kindAt}
 use Rattle.records.specs.Calls.{admitOf}
 use Rattle.blocks.specs.Blocks.{Block, live}
-use Rattle.totals.specs.declared.Tally.{Tally}
+use Rattle.totals.specs.declared.Amount.{Amount}
 use Rattle.totals.specs.declared.Sums.{Sums}
 
 -- the sum of the sizes that were given
@@ -18,8 +18,8 @@ given [] = 0
 given (b ∷ l) = b .size + given l
 
 -- a list of blocks in two numbers: how many they are, and the bytes given
-unfoldable pub tallyOf : List Block → Tally
-tallyOf l = record { blocks = length l; bytes = given l }
+unfoldable pub amountOf : List Block → Amount
+amountOf l = record { blocks = length l; bytes = given l }
 
 -- the sum of what f gives at n numbers from i on
 unfoldable pub sum : (ℕ → ℕ) → ℕ → ℕ → ℕ
@@ -47,9 +47,9 @@ abbrev pub totalled : ℕ → ℕ → ℕ → ℕ → Sums
 totalled r n b f = record { refusal = r; blocks = n; bytes = b; free = f }
 
 -- the totals of records that are sound
-unfoldable pub tallied : ℕ → Pool → Sums
-tallied c p = totalled 0 (length (live c p)) (given (live c p)) (freePages c p)
+unfoldable pub summed : ℕ → Pool → Sums
+summed c p = totalled 0 (length (live c p)) (given (live c p)) (freePages c p)
 
 -- the call
 unfoldable pub totalsOf : ℕ → Pool → Sums
-totalsOf c p = unless (admitOf c p) (λ r. totalled r 0 0 0) (tallied c p)
+totalsOf c p = unless (admitOf c p) (λ r. totalled r 0 0 0) (summed c p)

@@ -8,12 +8,12 @@ ghost use Rattle.classes.specs.Classes.{rowAt};
 ghost use Rattle.records.specs.Lent.{lent, before};
 ghost use Rattle.records.specs.Calls.{admitOf};
 ghost use Rattle.blocks.specs.Blocks.{blocksAt, live};
-ghost use Rattle.totals.specs.Totals.{tallyOf, tallied};
+ghost use Rattle.totals.specs.Totals.{amountOf, summed};
 ghost use Rattle.totals.specs.Rows.{classIn};
 ghost use Rattle.totals.specs.Means.{TotalsMean};
 
 // Some live blocks: how many, and the sum of the sizes given.
-pub struct Tally {
+pub struct Amount {
     pub blocks: usize,
     pub bytes: usize,
 }
@@ -42,26 +42,26 @@ fn class_in(k: records::Kind) -> usize
 }
 
 // The live blocks that begin in the run that starts at page g, which is of kind k; row is that of its class, where it is a class run.
-fn page_tally(slots: &[u64], g: usize, k: records::Kind, row: classes::Row) -> Tally
+fn page_amount(slots: &[u64], g: usize, k: records::Kind, row: classes::Row) -> Amount
     requires { ⌜ (512 * g + 512 ≤ 64 * length (now slots)) × (g < 8192) × (spanOf k < 512) × (row ≡ rowAt (classIn k)) ⌝ }
-    ensures { λ r. ⌜ r ≡ tallyOf (blocksAt g k (λ s. isSet (now (slots .entry)) (512 * g + s))) ⌝ }
+    ensures { λ r. ⌜ r ≡ amountOf (blocksAt g k (λ s. isSet (now (slots .entry)) (512 * g + s))) ⌝ }
 {
     match k {
         records::Kind::Class(_) => {
             let n = bitrow::count_bits(slots, 512 * g, widths::wide16(row.slots));
-            return Tally {
+            return Amount {
                 blocks: n,
                 bytes: n * widths::wide16(row.size),
             };
         }
         records::Kind::Large(n) => {
-            return Tally {
+            return Amount {
                 blocks: 1,
                 bytes: 4096 * (n + 1),
             };
         }
         _ => {
-            return Tally {
+            return Amount {
                 blocks: 0,
                 bytes: 0,
             };
@@ -70,9 +70,9 @@ fn page_tally(slots: &[u64], g: usize, k: records::Kind, row: classes::Row) -> T
 }
 
 // All live blocks. The class rows are copied once: a constant is written out anew at each read by index.
-fn tally_live(c: u64, bits: &[u64], words: &[u32], slots: &[u64]) -> Tally
+fn live_amount(c: u64, bits: &[u64], words: &[u32], slots: &[u64]) -> Amount
     requires { ⌜ admitOf c (lent bits words slots) ≡ 0 ⌝ }
-    ensures { λ r. ⌜ r ≡ tallyOf (live c (before bits words slots)) ⌝ }
+    ensures { λ r. ⌜ r ≡ amountOf (live c (before bits words slots)) ⌝ }
 {
     let table = classes::class_rows();
     let n = 512 * (c as usize);
@@ -82,12 +82,12 @@ fn tally_live(c: u64, bits: &[u64], words: &[u32], slots: &[u64]) -> Tally
     while g < n {
         let k = records::kind_at(c, bits, words, slots, g);
         let row = table[class_in(k)];
-        let t = page_tally(slots, g, k, row);
+        let t = page_amount(slots, g, k, row);
         blocks = blocks + t.blocks;
         bytes = bytes + t.bytes;
         g += 1;
     }
-    Tally {
+    Amount {
         blocks: blocks,
         bytes: bytes,
     }
@@ -98,16 +98,16 @@ pub fn live_count(c: u64, bits: &[u64], words: &[u32], slots: &[u64]) -> usize
     requires { ⌜ admitOf c (lent bits words slots) ≡ 0 ⌝ }
     ensures { λ r. ⌜ r ≡ length (live c (before bits words slots)) ⌝ }
 {
-    let t = tally_live(c, bits, words, slots);
+    let t = live_amount(c, bits, words, slots);
     t.blocks
 }
 
 // The totals of records that are sound. There the page bit is 0 just at free pages.
 pub fn totals_sound(c: u64, bits: &[u64], words: &[u32], slots: &[u64]) -> Sums
     requires { ⌜ admitOf c (lent bits words slots) ≡ 0 ⌝ }
-    ensures { λ r. ⌜ r ≡ tallied c (before bits words slots) ⌝ }
+    ensures { λ r. ⌜ r ≡ summed c (before bits words slots) ⌝ }
 {
-    let t = tally_live(c, bits, words, slots);
+    let t = live_amount(c, bits, words, slots);
     let n = 512 * (c as usize);
     let taken = bitrow::count_bits(bits, 0, n);
     Sums {

@@ -4,7 +4,7 @@ use mathlib.Core.Bool.{true, false}
 use native.Mathlib.Omega.{arith}
 use borrow.Author.Tests.{not-true, not-false}
 use Rattle.records.proofs.AdmitLaws.{shaped-lengths, admit-unfit}
-use Rattle.admit.proofs.Sweeps.{admit-says}
+use Rattle.admit.proofs.PageLaws.{admit-says}
 use borrow.Author.Needs.{needs}
 use Rattle.admit.proofs.admit.Statement.{statement}
 use Rattle.admit.proofs.admit.Tie as tie

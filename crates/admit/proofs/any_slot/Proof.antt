@@ -5,7 +5,7 @@ use Prim.Native.Nat.{_≤_, _-_, _*_}
 use native.Mathlib.Omega.{arith}
 use lib.Dec.{eqb}
 use Rattle.records.specs.Sound.{all}
-use Rattle.admit.specs.Sweep.{wordClear}
+use Rattle.admit.specs.Pages.{wordClear}
 use Rattle.admit.proofs.Clear.{all-none, any-turn, slots-done}
 use Rattle.admit.proofs.any_slot.Statement.{statement}
 use Rattle.admit.proofs.any_slot.Tie as tie

@@ -23,8 +23,8 @@ returns-2 c =
 any-slot-requires : tie.Need-any-slot-requires
 any-slot-requires c κs = search needs
 
-after-word-requires : tie.Need-after-word-requires
-after-word-requires c κs = search needs
+next-word-requires : tie.Need-next-word-requires
+next-word-requires c κs = search needs
 
 sub-t18 : tie.Need-sub-t18
 sub-t18 c = search needs
@@ -33,7 +33,7 @@ returns-3 : tie.Need-returns-3
 returns-3 c =
     let d = c .before .before .before .before .before .before in
     bit-is (not-false _ (c .before .before .before .if2 .left)) (is-inner _ _ _ _ _ _ _ (d .pre .4)
-    (c .before .before .before .before .if1 .taken) (c .before .before .if3 .left) (c .before .any-slot .ensures) (c .after-word .ensures))
+    (c .before .before .before .before .if1 .taken) (c .before .before .if3 .left) (c .before .any-slot .ensures) (c .next-word .ensures))
 
 in-range-requires : tie.Need-in-range-requires
 in-range-requires c κs = search needs
@@ -126,7 +126,7 @@ page-spec =
     wrong-requires-2
     returns-2
     any-slot-requires
-    after-word-requires
+    next-word-requires
     sub-t18
     returns-3
     in-range-requires

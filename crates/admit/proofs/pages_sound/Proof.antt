@@ -4,7 +4,7 @@ use Prim.Native.Nat.{_≤_, _-_}
 use native.Mathlib.Omega.{arith}
 use borrow.Author.Needs.{needs}
 use borrow.Author.Tests.{not-true, not-false}
-use Rattle.admit.proofs.Sweeps.{Blocks, blocks-start, blocks-on, blocks-off, blocks-done}
+use Rattle.admit.proofs.PageLaws.{Blocks, blocks-start, blocks-on, blocks-off, blocks-done}
 use Rattle.admit.proofs.pages_sound.Statement.{statement}
 use Rattle.admit.proofs.pages_sound.Tie as tie
 
@@ -23,8 +23,8 @@ behind-table-requires c κs = search needs
 loop-holds : tie.Need-loop-holds Inv-loop μ-loop
 loop-holds c = (omega arith, blocks-start _ _)
 
-block-requires : tie.Need-block-requires Inv-loop μ-loop
-block-requires c κs =
+pages-64-requires : tie.Need-pages-64-requires Inv-loop μ-loop
+pages-64-requires c κs =
     let d = c .before .before .before .before .before in (
       omega arith,
       omega arith,
@@ -38,7 +38,7 @@ block-requires c κs =
 returns : tie.Need-returns Inv-loop μ-loop
 returns c =
     let d = c .before .before .before .before .before .before in
-    blocks-off (d .loop .inv .1) (omega arith) (c .before .before .block .ensures) (not-true _ (c .if1 .taken))
+    blocks-off (d .loop .inv .1) (omega arith) (c .before .before .pages-64 .ensures) (not-true _ (c .if1 .taken))
 
 add-i : tie.Need-add-i Inv-loop μ-loop
 add-i c = search needs
@@ -49,7 +49,7 @@ loop-less c = search needs
 loop-again : tie.Need-loop-again Inv-loop μ-loop
 loop-again c =
     let d = c .before .before .before .before .before .before in
-    (omega arith, blocks-on (d .loop .inv .1) (omega arith) (c .before .before .block .ensures) (not-false _ (c .if1 .left)))
+    (omega arith, blocks-on (d .loop .inv .1) (omega arith) (c .before .before .pages-64 .ensures) (not-false _ (c .if1 .left)))
 
 returns-2 : tie.Need-returns-2 Inv-loop μ-loop
 returns-2 c = blocks-done (c .before .loop .inv .1) (omega arith)
@@ -63,7 +63,7 @@ pages-sound-spec =
     mask-table-requires
     behind-table-requires
     loop-holds
-    block-requires
+    pages-64-requires
     returns
     add-i
     loop-less

@@ -1,5 +1,5 @@
 -- `totals::class_in` meets its contract. Assumes nothing.
-use Rattle.totals.proofs.TallyLaws.{others-zero}
+use Rattle.totals.proofs.AmountLaws.{others-zero}
 use borrow.Author.Needs.{needs}
 use Rattle.totals.proofs.class_in.Statement.{statement}
 use Rattle.totals.proofs.class_in.Tie as tie

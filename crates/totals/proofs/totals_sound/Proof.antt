@@ -7,8 +7,8 @@ use borrow.Author.Needs.{needs}
 use Rattle.totals.proofs.totals_sound.Statement.{statement}
 use Rattle.totals.proofs.totals_sound.Tie as tie
 
-tally-live-requires : tie.Need-tally-live-requires
-tally-live-requires c κs = search needs
+live-amount-requires : tie.Need-live-amount-requires
+live-amount-requires c κs = search needs
 
 mul-n : tie.Need-mul-n
 mul-n c = let s = admitted _ _ (c .before .before .before .before .pre) .shape in record { fits = omega arith }
@@ -34,14 +34,14 @@ returns : tie.Need-returns
 returns c =
     let d = c .before .before .before .before .before .before .before .before in
     let h = free-read _ _ (d .pre) _ _ refl (c .before .before .before .count-bits .ensures) in
-    totals-made _ _ _ _ _ _ (c .before .before .before .before .tally-live .ensures) (c .before .before .wide64 .ensures)
+    totals-made _ _ _ _ _ _ (c .before .before .before .before .live-amount .ensures) (c .before .before .wide64 .ensures)
     (c .before .wide642 .ensures) (c .wide643 .ensures) (omega arith)
 
 pub totals-sound-spec : {M : Type 1} → statement M
 totals-sound-spec =
     tie.close
     (tie.spec
-    tally-live-requires
+    live-amount-requires
     mul-n
     count-bits-requires
     wide64-requires

@@ -28,12 +28,12 @@ use Rattle.blocks.specs.Blocks.{Block, slotBlock, flat, when, blocksAt, pageBlo
 use Rattle.blocks.proofs.PageLaws.{kind-blocks, bare-none, liveFrom, from-start, from-step, from-over}
 use Rattle.blocks.proofs.KeepLaws.{admit-good}
 use Rattle.blocks.proofs.ApartLaws.{live-rising}
-use Rattle.totals.specs.declared.Tally.{Tally}
-use Rattle.totals.specs.Totals.{given, tallyOf}
+use Rattle.totals.specs.declared.Amount.{Amount}
+use Rattle.totals.specs.Totals.{given, amountOf}
 use Rattle.totals.specs.Rows.{classIn}
 
-abbrev pub tally : ℕ → ℕ → Tally
-tally n b = record { blocks = n; bytes = b }
+abbrev pub amount : ℕ → ℕ → Amount
+amount n b = record { blocks = n; bytes = b }
 
 -- ---- one list behind another
 
@@ -83,31 +83,31 @@ module _ (ss : List ℕ) (g b : ℕ) where
       when-given (isSet ss (512 * g + i)) (slotBlock g b i) (flat slotRow (suc i) n)
       ∙ ap₂ (λ (x y : ℕ). x * size b + y) d r ∙ omega arith
 
--- ---- the tally of a page, in the arm of a match that tells its kind
+-- ---- the amount of a page, in the arm of a match that tells its kind
 
 module _ (ss : List ℕ) (g : ℕ) (k : Kind) where
   abbrev taken : ℕ → Bool
   taken i = isSet ss (512 * g + i)
 
-  pub tally-none : Bare k → tally 0 0 ≡ tallyOf (blocksAt g k taken)
-  unfolding tallyOf given
-  tally-none h = sym (ap tallyOf (bare-none g taken k h))
+  pub amount-none : Bare k → amount 0 0 ≡ amountOf (blocksAt g k taken)
+  unfolding amountOf given
+  amount-none h = sym (ap amountOf (bare-none g taken k h))
 
-  pub tally-large : (n : ℕ) → k ≡ Large n → tally 1 (4096 * (n + 1)) ≡ tallyOf (blocksAt g k taken)
-  unfolding tallyOf given
-  tally-large n e =
+  pub amount-large : (n : ℕ) → k ≡ Large n → amount 1 (4096 * (n + 1)) ≡ amountOf (blocksAt g k taken)
+  unfolding amountOf given
+  amount-large n e =
       let r : 4096 * (n + 1) ≡ 4096 * suc n + 0 = omega arith in
-      ap (tally 1) r ∙ sym (ap (λ (j : Kind). tallyOf (blocksAt g j taken)) e)
+      ap (amount 1) r ∙ sym (ap (λ (j : Kind). amountOf (blocksAt g j taken)) e)
 
-  pub tally-class : (b : ℕ) {r : Row} {s n z : ℕ} → k ≡ Class b → r ≡ rowAt b → s ≡ r .slots → n ≡ countBits ss (512 * g) s → z ≡ r .size
-      → tally n (n * z) ≡ tallyOf (blocksAt g k taken)
-  unfolding tallyOf
-  tally-class b {n = n} {z = z} d e f h q =
+  pub amount-class : (b : ℕ) {r : Row} {s n z : ℕ} → k ≡ Class b → r ≡ rowAt b → s ≡ r .slots → n ≡ countBits ss (512 * g) s → z ≡ r .size
+      → amount n (n * z) ≡ amountOf (blocksAt g k taken)
+  unfolding amountOf
+  amount-class b {n = n} {z = z} d e f h q =
       let count : n ≡ countBits ss (512 * g) (slots b) = h ∙ ap (countBits ss (512 * g)) (slots-read b e f) in
       let bytes : z ≡ size b = size-read b e q in
-      ap₂ tally (count ∙ sym (slots-length ss g b 0 (slots b) (512 * g) (omega arith)))
+      ap₂ amount (count ∙ sym (slots-length ss g b 0 (slots b) (512 * g) (omega arith)))
       (ap₂ _*_ count bytes ∙ sym (slots-given ss g b 0 (slots b) (512 * g) (omega arith)))
-      ∙ sym (ap (λ (j : Kind). tallyOf (blocksAt g j taken)) d)
+      ∙ sym (ap (λ (j : Kind). amountOf (blocksAt g j taken)) d)
 
 -- the row that was read for a kind is that of its class
 pub row-as : {k : Kind} {r : Row} (b : ℕ) → k ≡ Class b → r ≡ rowAt (classIn k) → r ≡ rowAt b
@@ -152,10 +152,10 @@ module _ (p : Pool) (g : ℕ) where
   told-few (Class b) e = let h = any-row b .pages-most in (class-at-low p g b (sym e), omega arith)
   told-few (Inner w) e = (omega arith, omega arith)
 
-  tally-page : {k : Kind} {t : Tally} → k ≡ kindAt p g → t ≡ tallyOf (blocksAt g k (λ s. isSet (p .slots) (512 * g + s)))
-      → t ≡ tallyOf (pageBlocks p g)
+  amount-page : {k : Kind} {t : Amount} → k ≡ kindAt p g → t ≡ amountOf (blocksAt g k (λ s. isSet (p .slots) (512 * g + s)))
+      → t ≡ amountOf (pageBlocks p g)
   unfolding slotAt
-  tally-page {k} e f = f ∙ ap tallyOf (kind-blocks p g k (sym e))
+  amount-page {k} e f = f ∙ ap amountOf (kind-blocks p g k (sym e))
 
 -- the row of class b, as it was read
 pub row-read : (d : Row) (t : List Row) (b i : ℕ) → t ≡ rows → d ≡ rowOf 0 0 0 → i ≡ b → getD t i d ≡ rowAt b
@@ -174,28 +174,28 @@ counted-start c p =
     let e = sym (from-start c p) in
     record { number = zero-add (length (liveFrom c p 0)) ∙ ap length e; sum = zero-add (given (liveFrom c p 0)) ∙ ap given e }
 
-module _ {c : ℕ} {p : Pool} {g n b : ℕ} (h : Counted c p g n b) (l : g < 512 * c) {k : Kind} (is : k ≡ kindAt p g) {t : Tally}
-    (made : t ≡ tallyOf (blocksAt g k (λ s. isSet (p .slots) (512 * g + s)))) where
+module _ {c : ℕ} {p : Pool} {g n b : ℕ} (h : Counted c p g n b) (l : g < 512 * c) {k : Kind} (is : k ≡ kindAt p g) {t : Amount}
+    (made : t ≡ amountOf (blocksAt g k (λ s. isSet (p .slots) (512 * g + s)))) where
   pub counted-on : Counted c p (g + 1) (n + t .blocks) (b + t .bytes)
-  unfolding tallyOf
+  unfolding amountOf
   counted-on =
-      let e : t ≡ tallyOf (pageBlocks p g) = tally-page p g is made in
-      let x : t .blocks ≡ length (pageBlocks p g) = ap (λ (y : Tally). y .blocks) e in
-      let z : t .bytes ≡ given (pageBlocks p g) = ap (λ (y : Tally). y .bytes) e in
+      let e : t ≡ amountOf (pageBlocks p g) = amount-page p g is made in
+      let x : t .blocks ≡ length (pageBlocks p g) = ap (λ (y : Amount). y .blocks) e in
+      let z : t .bytes ≡ given (pageBlocks p g) = ap (λ (y : Amount). y .bytes) e in
       let u = ap length (from-step c p g l) ∙ length-append (pageBlocks p g) (liveFrom c p (g + 1)) in
       let v = ap given (from-step c p g l) ∙ given-append (pageBlocks p g) (liveFrom c p (g + 1)) in
       let a = h .number in let d = h .sum in
       record { number = omega arith; sum = omega arith }
 
-pub counted-done : {c : ℕ} {p : Pool} {g n b : ℕ} → Counted c p g n b → 512 * c ≤ g → tally n b ≡ tallyOf (live c p)
-unfolding tallyOf given
+pub counted-done : {c : ℕ} {p : Pool} {g n b : ℕ} → Counted c p g n b → 512 * c ≤ g → amount n b ≡ amountOf (live c p)
+unfolding amountOf given
 counted-done {c} {p} {g} {n} {b} h l =
     let z = from-over c p g l in
     let u : length (liveFrom c p g) ≡ 0 = ap length z in
     let v : given (liveFrom c p g) ≡ 0 = ap given z in
     let a = h .number in let d = h .sum in
     let x : n ≡ length (live c p) = omega arith in let y : b ≡ given (live c p) = omega arith in
-    ap₂ tally x y
+    ap₂ amount x y
 
 -- ---- the sums are those of a pool: at most its bytes
 
@@ -211,6 +211,6 @@ pub record Bounded (c : ℕ) (p : Pool) : Type 0 where
 pub bounded : (c : ℕ) (p : Pool) → admitOf c p ≡ 0 → Bounded c p
 bounded c p ok = let (x, y) = rising-given (live-rising c p (admit-good c p ok)) in record { blocks = omega arith; bytes = omega arith }
 
-pub count-as : {t : Tally} (l : List Block) → t ≡ tallyOf l → t .blocks ≡ length l
-unfolding tallyOf
-count-as l e = ap (λ (y : Tally). y .blocks) e
+pub count-as : {t : Amount} (l : List Block) → t ≡ amountOf l → t .blocks ≡ length l
+unfolding amountOf
+count-as l e = ap (λ (y : Amount). y .blocks) e

@@ -12,13 +12,13 @@ use Rattle.records.specs.Pool.{Pool}
 use Rattle.records.specs.Sound.{all, step, soundFrom}
 
 -- the word of the page behind a page with the word d, inside one run
-unfoldable pub after : ℕ → ℕ
-after d = cond (eqb d 0) 0 (d + 65536)
+unfoldable pub nextWord : ℕ → ℕ
+nextWord d = cond (eqb d 0) 0 (d + 65536)
 
 -- the words of the n pages still to come in a run, of which the next is d
 unfoldable pub coming : ℕ → ℕ → List ℕ
 coming d zero = []
-coming d (suc n) = d ∷ coming (after d) n
+coming d (suc n) = d ∷ coming (nextWord d) n
 
 -- slot word j of page g has no bit that names none of n slots
 unfoldable pub wordClear : List ℕ → ℕ → ℕ → ℕ → Bool
@@ -48,6 +48,6 @@ pub record Paged (ss : List ℕ) (g left due w : ℕ) (t ok : Bool) (left′ due
   pub ready : Ready left′ due′
 
 -- the 64 pages of page-bit word i, whatever comes behind them
-pub record Swept (p : Pool) (i left due : ℕ) (ok : Bool) (left′ due′ : ℕ) : Type 0 where
+pub record Checked (p : Pool) (i left due : ℕ) (ok : Bool) (left′ due′ : ℕ) : Type 0 where
   pub says : (m : ℕ) → cond ok (soundFrom p (coming due′ left′) (64 * i + 64) m) false ≡ soundFrom p (coming due left) (64 * i) (64 + m)
   pub ready : Ready left′ due′

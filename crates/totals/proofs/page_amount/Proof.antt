@@ -1,10 +1,10 @@
--- `totals::page_tally` meets its contract. Assumes nothing.
+-- `totals::page_amount` meets its contract. Assumes nothing.
 use native.Mathlib.Omega.{arith}
 use Rattle.records.proofs.KindLaws.{others-bare}
-use Rattle.totals.proofs.TallyLaws.{tally-none, tally-large, tally-class, row-as, slots-few, bytes-few, large-few}
+use Rattle.totals.proofs.AmountLaws.{amount-none, amount-large, amount-class, row-as, slots-few, bytes-few, large-few}
 use borrow.Author.Needs.{needs}
-use Rattle.totals.proofs.page_tally.Statement.{statement}
-use Rattle.totals.proofs.page_tally.Tie as tie
+use Rattle.totals.proofs.page_amount.Statement.{statement}
+use Rattle.totals.proofs.page_amount.Tie as tie
 
 enum-told : tie.Need-enum-told
 enum-told c = search needs
@@ -33,7 +33,7 @@ mul-t8 c =
 returns : tie.Need-returns
 returns c =
     let d = c .before .before .before in let e = d .before .before .before in
-    tally-class _ _ _ _ (d .enum-told .given .1) (row-as _ (d .enum-told .given .1) (e .pre .3)) (c .before .before .wide16 .ensures)
+    amount-class _ _ _ _ (d .enum-told .given .1) (row-as _ (d .enum-told .given .1) (e .pre .3)) (c .before .before .wide16 .ensures)
     (c .before .count-bits .ensures) (c .wide162 .ensures)
 
 enum-known-k : tie.Need-enum-known-k
@@ -46,13 +46,13 @@ mul-t10 : tie.Need-mul-t10
 mul-t10 c = let m = large-few (c .before .k .given .1) (c .before .before .before .before .pre .2) in record { fits = omega arith }
 
 returns-2 : tie.Need-returns-2
-returns-2 c = tally-large (c .before .before .before .before .args .slots .now) _ _ _ (c .before .k .given .1)
+returns-2 c = amount-large (c .before .before .before .before .args .slots .now) _ _ _ (c .before .k .given .1)
 
 returns-3 : tie.Need-returns-3
-returns-3 c = let d = c .before .before in tally-none (d .args .slots .now) _ (d .args .k) (others-bare (d .args .k) (c .match .keys3))
+returns-3 c = let d = c .before .before in amount-none (d .args .slots .now) _ (d .args .k) (others-bare (d .args .k) (c .match .keys3))
 
-pub page-tally-spec : {M : Type 1} → statement M
-page-tally-spec =
+pub page-amount-spec : {M : Type 1} → statement M
+page-amount-spec =
     tie.close
     (tie.spec
     enum-told

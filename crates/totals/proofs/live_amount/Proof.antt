@@ -1,13 +1,13 @@
--- `totals::tally_live` meets its contract. Assumes nothing.
+-- `totals::live_amount` meets its contract. Assumes nothing.
 use borrow.Author.Needs.{needs}
 use mathlib.Core.Path.{_≡_, refl}
 use Prim.Native.Nat.{_-_, _*_, _≤_}
 use native.Mathlib.Omega.{arith}
 use Rattle.records.specs.Pool.{pool}
 use Rattle.records.proofs.AdmitLaws.{admitted}
-use Rattle.totals.proofs.TallyLaws.{told-few, row-read, Counted, counted-start, counted-on, counted-done, bounded}
-use Rattle.totals.proofs.tally_live.Statement.{statement}
-use Rattle.totals.proofs.tally_live.Tie as tie
+use Rattle.totals.proofs.AmountLaws.{told-few, row-read, Counted, counted-start, counted-on, counted-done, bounded}
+use Rattle.totals.proofs.live_amount.Statement.{statement}
+use Rattle.totals.proofs.live_amount.Tie as tie
 
 abbrev Inv-loop : tie.InvT-loop
 Inv-loop c bits words slots table n blocks₀ bytes₀ g₀ blocks bytes g = (g ≤ n) × (n ≡ 512 * c) × Counted c (pool bits words slots) g blocks bytes
@@ -36,8 +36,8 @@ mul-row c = let f = told-few _ _ _ (c .before .kind-at .ensures) in record { fit
 array-copy-out-row : tie.Need-array-copy-out-row Inv-loop μ-loop
 array-copy-out-row c = let f = told-few _ _ _ (c .before .kind-at .ensures) in omega arith
 
-page-tally-requires : tie.Need-page-tally-requires Inv-loop μ-loop
-page-tally-requires c κs =
+page-amount-requires : tie.Need-page-amount-requires Inv-loop μ-loop
+page-amount-requires c κs =
     let d = c .before .before .before .before .before in let e = d .before .before .before .before in
     let s = admitted _ _ (e .pre) .shape in (
       omega arith,
@@ -52,14 +52,14 @@ add-blocks c =
     let d = c .before .before .before .before .before .before in let e = d .before .before .before .before .before in
     let b = bounded _ _ (e .pre) in let s = admitted _ _ (e .pre) .shape in
     let o = counted-on (d .loop .inv .2) (omega arith) (c .before .before .before .before .kind-at .ensures)
-    (c .before .page-tally .ensures) in
+    (c .before .page-amount .ensures) in
     let a = o .number in record { fits = omega arith }
 
 add-bytes : tie.Need-add-bytes Inv-loop μ-loop
 add-bytes c =
     let d = c .before .before .before .before .before in let e = d .before .before in let f = e .before .before .before .before .before in
     let b = bounded _ _ (f .pre) in let s = admitted _ _ (f .pre) .shape in
-    let o = counted-on (e .loop .inv .2) (omega arith) (d .kind-at .ensures) (c .before .before .page-tally .ensures) in let a = o .sum in
+    let o = counted-on (e .loop .inv .2) (omega arith) (d .kind-at .ensures) (c .before .before .page-amount .ensures) in let a = o .sum in
     record { fits = omega arith }
 
 add-g : tie.Need-add-g Inv-loop μ-loop
@@ -76,14 +76,14 @@ loop-again c =
       omega arith,
       e .loop .inv .1,
       counted-on (e .loop .inv .2) (omega arith) (d .kind-at .ensures)
-          (c .before .before .page-tally .ensures),
+          (c .before .before .page-amount .ensures),
     )
 
 returns : tie.Need-returns Inv-loop μ-loop
 returns c = counted-done (c .before .loop .inv .2) (omega arith)
 
-pub tally-live-spec : {M : Type 1} → statement M
-tally-live-spec =
+pub live-amount-spec : {M : Type 1} → statement M
+live-amount-spec =
     tie.close
     (tie.spec
     Inv-loop
@@ -95,7 +95,7 @@ tally-live-spec =
     class-in-requires
     mul-row
     array-copy-out-row
-    page-tally-requires
+    page-amount-requires
     add-blocks
     add-bytes
     add-g

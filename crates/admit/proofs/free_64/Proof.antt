@@ -1,11 +1,11 @@
--- `admit::free_block` meets its contract. Assumes nothing.
+-- `admit::free_64` meets its contract. Assumes nothing.
 use Rattle.records.specs.Pool.{pool}
 use Prim.Native.Nat.{_≤_, _-_}
 use native.Mathlib.Omega.{arith}
 use borrow.Author.Needs.{needs}
-use Rattle.admit.proofs.Sweeps.{Freed, freed-start, freed-on, freed-done}
-use Rattle.admit.proofs.free_block.Statement.{statement}
-use Rattle.admit.proofs.free_block.Tie as tie
+use Rattle.admit.proofs.PageLaws.{Freed, freed-start, freed-on, freed-done}
+use Rattle.admit.proofs.free_64.Statement.{statement}
+use Rattle.admit.proofs.free_64.Tie as tie
 
 abbrev Inv-loop : tie.InvT-loop
 Inv-loop bits words slots i acc₀ p₀ acc p = (p ≤ 64) × (Freed (pool bits words slots) i p acc)
@@ -51,8 +51,8 @@ loop-again c =
 returns : tie.Need-returns Inv-loop μ-loop
 returns c = freed-done (c .before .loop .inv .1) (omega arith)
 
-pub free-block-spec : {M : Type 1} → statement M
-free-block-spec =
+pub free-64-spec : {M : Type 1} → statement M
+free-64-spec =
     tie.close
     (tie.spec
     Inv-loop

@@ -25,7 +25,7 @@ use Rattle.records.proofs.Flags.{cond-eq, cond-ne, eq-cases}
 use Rattle.records.proofs.KindLaws.{kind-large}
 use Rattle.records.proofs.WalkLaws.{sound-step}
 use Rattle.records.proofs.AdmitLaws.{admit-fit}
-use Rattle.admit.specs.Sweep.{coming, slotsClear, Ready, outcome, Paged, Swept}
+use Rattle.admit.specs.Pages.{coming, slotsClear, Ready, outcome, Paged, Checked}
 use Rattle.admit.proofs.Clear.{or-none, page-clean}
 use Rattle.admit.proofs.Steps.{ready-none}
 
@@ -176,7 +176,7 @@ module _ {p : Pool} {i left due q l d acc bw : ℕ} (h : Walked p i left due q l
             ∙ one-more m;
       }
 
-  pub walked-off : ok ≡ false → Swept p i left due false 0 0
+  pub walked-off : ok ≡ false → Checked p i left due false 0 0
   walked-off e =
       record {
         says =
@@ -186,7 +186,7 @@ module _ {p : Pool} {i left due q l d acc bw : ℕ} (h : Walked p i left due q l
         ready = ready-none;
       }
 
-pub walked-done : {p : Pool} {i left due q l d acc bw : ℕ} → Walked p i left due q l d acc bw → q ≡ 64 → Swept p i left due (eqb acc 0) l d
+pub walked-done : {p : Pool} {i left due q l d acc bw : ℕ} → Walked p i left due q l d acc bw → q ≡ 64 → Checked p i left due (eqb acc 0) l d
 walked-done {p} {i} {left} {due} {q} {l} {d} {acc} {bw} h e =
     record { says = λ m. block-done p i q acc (coming d l) m e ∙ h .says m; ready = h .ready }
 
@@ -198,7 +198,7 @@ no-edge due zero false w f = refl
 no-edge due (suc n) true w f = eq-cases (λ (k : Kind). step (coming due (suc n)) k ≡ none) w 0x40000001 (λ a. refl) (λ a. refl)
 no-edge due (suc n) false w f = refl
 
-pub edge-off : (p : Pool) (i left due : ℕ) → i % 8 ≡ 0 → (left ≡ 0 → getD (p .words) (64 * i) 0 ≡ 0x40000001 → ⊥) → Swept p i left due false 0 0
+pub edge-off : (p : Pool) (i left due : ℕ) → i % 8 ≡ 0 → (left ≡ 0 → getD (p .words) (64 * i) 0 ≡ 0x40000001 → ⊥) → Checked p i left due false 0 0
 unfolding kindAt isEdge
 edge-off p i left due z f =
     let e : 64 * i % 512 ≡ 0 = omega arith in
@@ -273,12 +273,12 @@ module _ (p : Pool) (i q : ℕ) (lt : q < 64) (ne : i % 8 ≢ 0) (zero-bits : ge
       go false true f = refl
       go false false f = refl
 
-pub freed-done : {p : Pool} {i q acc : ℕ} → Freed p i q acc → q ≡ 64 → Swept p i 0 0 (eqb acc 0) 0 0
+pub freed-done : {p : Pool} {i q acc : ℕ} → Freed p i q acc → q ≡ 64 → Checked p i 0 0 (eqb acc 0) 0 0
 unfolding coming
 freed-done {p} {i} {q} {acc} h e = record { says = λ m. block-done p i q acc [] m e ∙ h .says m; ready = ready-none }
 
 -- between runs the next word is no matter
-pub freed-as : {p : Pool} {i left : ℕ} (due : ℕ) {ok : Bool} {l d : ℕ} → left ≡ 0 → Swept p i 0 0 ok l d → Swept p i left due ok l d
+pub freed-as : {p : Pool} {i left : ℕ} (due : ℕ) {ok : Bool} {l d : ℕ} → left ≡ 0 → Checked p i 0 0 ok l d → Checked p i left due ok l d
 unfolding coming
 freed-as {p} {i} {left} due {ok} {l} {d} e s =
     record { says = λ m. s .says m ∙ ap (λ (n : ℕ). soundFrom p (coming due n) (64 * i) (64 + m)) (sym e); ready = s .ready }
@@ -294,7 +294,7 @@ pub blocks-start : (p : Pool) (n : ℕ) → Blocks p n 0 0 0
 unfolding coming
 blocks-start p n = record { ready = ready-none; says = ap (λ (m : ℕ). soundFrom p [] 0 m) (omega arith) }
 
-module _ {p : Pool} {n i left due : ℕ} (h : Blocks p n i left due) (lt : i < n) {ok : Bool} {left′ due′ : ℕ} (s : Swept p i left due ok left′ due′) where
+module _ {p : Pool} {n i left due : ℕ} (h : Blocks p n i left due) (lt : i < n) {ok : Bool} {left′ due′ : ℕ} (s : Checked p i left due ok left′ due′) where
   block-says : (v : Bool) → ok ≡ v → cond v (soundFrom p (coming due′ left′) (64 * (i + 1)) (64 * (n - (i + 1)))) false ≡ soundFrom p [] 0 (64 * n)
   block-says v e =
       let a : 64 * (i + 1) ≡ 64 * i + 64 = omega arith in

@@ -1,12 +1,12 @@
--- `admit::mixed_block` meets its contract. Assumes nothing.
+-- `admit::mixed_64` meets its contract. Assumes nothing.
 use Rattle.records.specs.Pool.{pool}
 use Prim.Native.Nat.{_≤_, _-_}
 use native.Mathlib.Omega.{arith}
 use borrow.Author.Needs.{needs}
 use borrow.Author.Tests.{not-true, not-false}
-use Rattle.admit.proofs.Sweeps.{Walked, walked-start, walked-on, walked-off, walked-done, edge-off}
-use Rattle.admit.proofs.mixed_block.Statement.{statement}
-use Rattle.admit.proofs.mixed_block.Tie as tie
+use Rattle.admit.proofs.PageLaws.{Walked, walked-start, walked-on, walked-off, walked-done, edge-off}
+use Rattle.admit.proofs.mixed_64.Statement.{statement}
+use Rattle.admit.proofs.mixed_64.Tie as tie
 
 abbrev Inv-loop : tie.InvT-loop
 Inv-loop bits words slots i left due masks behinds bw₀ l₀ d₀ acc₀ p₀ bw l d acc p = (p ≤ 64) × (Walked (pool bits words slots) i left due p l d acc bw)
@@ -80,8 +80,8 @@ loop-again c =
 returns-3 : tie.Need-returns-3 Inv-loop μ-loop
 returns-3 c = walked-done (c .before .loop .inv .1) (omega arith)
 
-pub mixed-block-spec : {M : Type 1} → statement M
-mixed-block-spec =
+pub mixed-64-spec : {M : Type 1} → statement M
+mixed-64-spec =
     tie.close
     (tie.spec
     Inv-loop
