@@ -49,7 +49,10 @@ fn any_slot(slots: &[u64], g: usize) -> u64
 
 // 0 when page g has no slot bit that names no slot of class b.
 fn stray_slot(slots: &[u64], g: usize, masks: &[u64; 240], b: usize) -> u64
-    requires { ⌜ (g < 8192) × (8 * g + 8 ≤ length (now slots)) × (b < 30) × (now masks ≡ maskTable) ⌝ }
+    requires low { ⌜ g < 8192 ⌝ }
+    requires long { ⌜ 8 * g + 8 ≤ length (now slots) ⌝ }
+    requires class { ⌜ b < 30 ⌝ }
+    requires table { ⌜ now masks ≡ maskTable ⌝ }
     ensures { λ r. ⌜ eqb r 0 ≡ slotsClear (now (slots .entry)) g (slotsOf (Class b)) ⌝ }
 {
     let i = 8 * g;
@@ -114,7 +117,11 @@ fn page(
     masks: &[u64; 240],
     behinds: &[u32; 30],
 ) -> PageStep
-    requires { ⌜ (g < 8192) × (8 * g + 8 ≤ length (now slots)) × (now masks ≡ maskTable) × (Behinds (now behinds)) × (Ready left due) ⌝ }
+    requires low { ⌜ g < 8192 ⌝ }
+    requires long { ⌜ 8 * g + 8 ≤ length (now slots) ⌝ }
+    requires table { ⌜ now masks ≡ maskTable ⌝ }
+    requires behind { ⌜ Behinds (now behinds) ⌝ }
+    requires ready { ⌜ Ready left due ⌝ }
     ensures { λ r. ⌜ Paged (now (slots .entry)) g left due w taken (r .ok) (r .left) (r .due) (r .stray) ⌝ }
 {
     if left != 0 {
@@ -201,7 +208,13 @@ fn mixed_64(
     masks: &[u64; 240],
     behinds: &[u32; 30],
 ) -> State
-    requires { ⌜ (i < 128) × (i < length (now bits)) × (64 * i + 64 ≤ length (now words)) × (512 * i + 512 ≤ length (now slots)) × (now masks ≡ maskTable) × (Behinds (now behinds)) × (Ready left due) ⌝ }
+    requires low { ⌜ i < 128 ⌝ }
+    requires bit { ⌜ i < length (now bits) ⌝ }
+    requires word { ⌜ 64 * i + 64 ≤ length (now words) ⌝ }
+    requires slot { ⌜ 512 * i + 512 ≤ length (now slots) ⌝ }
+    requires table { ⌜ now masks ≡ maskTable ⌝ }
+    requires behind { ⌜ Behinds (now behinds) ⌝ }
+    requires ready { ⌜ Ready left due ⌝ }
     ensures { λ r. ⌜ Checked (before bits words slots) i left due (r .ok) (r .left) (r .due) ⌝ }
 {
     if !edge_ok(i, left, words[64 * i]) {
@@ -242,7 +255,11 @@ fn mixed_64(
 
 // The 64 pages of page-bit word i, between runs, where the word is 0 and no chunk begins: all are free, with no slot bit.
 fn free_64(bits: &[u64], words: &[u32], slots: &[u64], i: usize) -> bool
-    requires { ⌜ (i < 128) × (i % 8 ≡ 0 → ⊥) × (getD (now bits) i 0 ≡ 0) × (64 * i + 64 ≤ length (now words)) × (512 * i + 512 ≤ length (now slots)) ⌝ }
+    requires low { ⌜ i < 128 ⌝ }
+    requires mid { ⌜ (i % 8 ≡ 0 → ⊥) ⌝ }
+    requires zero { ⌜ getD (now bits) i 0 ≡ 0 ⌝ }
+    requires word { ⌜ 64 * i + 64 ≤ length (now words) ⌝ }
+    requires slot { ⌜ 512 * i + 512 ≤ length (now slots) ⌝ }
     ensures { λ r. ⌜ Checked (before bits words slots) i 0 0 r 0 0 ⌝ }
 {
     let mut acc: u64 = 0;
@@ -268,7 +285,13 @@ fn pages_64(
     masks: &[u64; 240],
     behinds: &[u32; 30],
 ) -> State
-    requires { ⌜ (i < 128) × (i < length (now bits)) × (64 * i + 64 ≤ length (now words)) × (512 * i + 512 ≤ length (now slots)) × (now masks ≡ maskTable) × (Behinds (now behinds)) × (Ready left due) ⌝ }
+    requires low { ⌜ i < 128 ⌝ }
+    requires bit { ⌜ i < length (now bits) ⌝ }
+    requires word { ⌜ 64 * i + 64 ≤ length (now words) ⌝ }
+    requires slot { ⌜ 512 * i + 512 ≤ length (now slots) ⌝ }
+    requires table { ⌜ now masks ≡ maskTable ⌝ }
+    requires behind { ⌜ Behinds (now behinds) ⌝ }
+    requires ready { ⌜ Ready left due ⌝ }
     ensures { λ r. ⌜ Checked (before bits words slots) i left due (r .ok) (r .left) (r .due) ⌝ }
 {
     if left == 0 {
@@ -288,7 +311,10 @@ fn pages_64(
 
 // The pages of n page-bit words.
 fn pages_sound(bits: &[u64], words: &[u32], slots: &[u64], n: usize) -> bool
-    requires { ⌜ (n ≤ 128) × (n ≤ length (now bits)) × (64 * n ≤ length (now words)) × (512 * n ≤ length (now slots)) ⌝ }
+    requires low { ⌜ n ≤ 128 ⌝ }
+    requires bit { ⌜ n ≤ length (now bits) ⌝ }
+    requires word { ⌜ 64 * n ≤ length (now words) ⌝ }
+    requires slot { ⌜ 512 * n ≤ length (now slots) ⌝ }
     ensures { λ r. ⌜ r ≡ soundFrom (before bits words slots) [] 0 (64 * n) ⌝ }
 {
     let masks = masks::mask_table();

@@ -47,7 +47,9 @@ pub fn least(a: usize, b: usize) -> usize
 // those is in no place of the word, so only one below `left` counts. The last word is read to its end, and what lies behind `to` is cut
 // off at the return: so a turn needs no second bound, and long searches are quicker.
 pub fn next_bit(words: &[u64], from: usize, to: usize, v: bool) -> usize
-    requires { ⌜ (from ≤ to) × (to ≤ 64 * length (now words)) × (to < 2 ^ 32) ⌝ }
+    requires order { ⌜ from ≤ to ⌝ }
+    requires long { ⌜ to ≤ 64 * length (now words) ⌝ }
+    requires low { ⌜ to < 2 ^ 32 ⌝ }
     ensures { λ r. ⌜ r ≡ nextBit (digit v) (now (words .entry)) from (to - from) ⌝ }
 {
     let mut q = from;
@@ -81,7 +83,9 @@ fn put_mask(w: u64, b: u64, v: bool) -> u64
 
 // Puts v at the m places from i on, which lie in one word.
 fn put_in_word(words: &mut [u64], i: usize, m: usize, v: bool)
-    requires { ⌜ (i < 64 * length (now words)) × (1 ≤ m) × (i % 64 + m ≤ 64) ⌝ }
+    requires long { ⌜ i < 64 * length (now words) ⌝ }
+    requires some { ⌜ 1 ≤ m ⌝ }
+    requires word { ⌜ i % 64 + m ≤ 64 ⌝ }
     ensures { λ _. ⌜ now (words .exit) ≡ putBits (digit v) (now (words .entry)) i m ⌝ }
 {
     let j = i / 64;

@@ -15,7 +15,9 @@ ghost use Rattle.blocks.specs.Apart.{Apart};
 
 // Slot s of the run that starts at page g gets the slot bit v.
 pub fn put_slot(bits: &[u64], words: &mut [u32], slots: &mut [u64], g: usize, s: usize, v: bool)
-    requires { ⌜ (g < 8192) × (s < 512) × (512 * g + 512 ≤ 64 * length (now slots)) ⌝ }
+    requires low { ⌜ g < 8192 ⌝ }
+    requires slot { ⌜ s < 512 ⌝ }
+    requires long { ⌜ 512 * g + 512 ≤ 64 * length (now slots) ⌝ }
     ensures { λ _. ⌜ after bits words slots ≡ putSlot (digit v) (before bits words slots) g s ⌝ }
 {
     bitrow::put_bit(slots, 512 * g + s, v);
@@ -23,7 +25,10 @@ pub fn put_slot(bits: &[u64], words: &mut [u32], slots: &mut [u64], g: usize, s:
 
 // The words of a run of class b, of n pages, from page g on.
 fn class_words(words: &mut [u32], g: usize, b: usize, n: usize)
-    requires { ⌜ (g + n ≤ 8192) × (g + n ≤ length (now words)) × (b < 30) × (n ≡ pages b) ⌝ }
+    requires low { ⌜ g + n ≤ 8192 ⌝ }
+    requires word { ⌜ g + n ≤ length (now words) ⌝ }
+    requires class { ⌜ b < 30 ⌝ }
+    requires count { ⌜ n ≡ pages b ⌝ }
     ensures { λ _. ⌜ now (words .exit) ≡ sets (now (words .entry)) g (wordsOf (Class b)) ⌝ }
 {
     words[g] = records::class_word(b);
@@ -36,7 +41,10 @@ fn class_words(words: &mut [u32], g: usize, b: usize, n: usize)
 
 // A run of class b at page g.
 pub fn put_class(bits: &mut [u64], words: &mut [u32], slots: &[u64], g: usize, b: usize)
-    requires { ⌜ (b < 30) × (g + pages b ≤ 8192) × (g + pages b ≤ 64 * length (now bits)) × (g + pages b ≤ length (now words)) ⌝ }
+    requires class { ⌜ b < 30 ⌝ }
+    requires low { ⌜ g + pages b ≤ 8192 ⌝ }
+    requires bit { ⌜ g + pages b ≤ 64 * length (now bits) ⌝ }
+    requires word { ⌜ g + pages b ≤ length (now words) ⌝ }
     ensures { λ _. ⌜ after bits words slots ≡ putRun 1 (before bits words slots) g (wordsOf (Class b)) ⌝ }
 {
     let row = classes::class_row(b);
@@ -47,7 +55,11 @@ pub fn put_class(bits: &mut [u64], words: &mut [u32], slots: &[u64], g: usize, b
 
 // A large run at page g, with k pages behind it. These have the word 0 already, so only the first is written.
 pub fn put_large(bits: &mut [u64], words: &mut [u32], slots: &[u64], g: usize, k: usize)
-    requires { ⌜ (k < 511) × (g + suc k ≤ 8192) × (g + suc k ≤ 64 * length (now bits)) × (g + suc k ≤ length (now words)) × ((i : ℕ) → g < i → i < g + suc k → getD (now words) i 0 ≡ 0) ⌝ }
+    requires few { ⌜ k < 511 ⌝ }
+    requires low { ⌜ g + suc k ≤ 8192 ⌝ }
+    requires bit { ⌜ g + suc k ≤ 64 * length (now bits) ⌝ }
+    requires word { ⌜ g + suc k ≤ length (now words) ⌝ }
+    requires zero { ⌜ ((i : ℕ) → g < i → i < g + suc k → getD (now words) i 0 ≡ 0) ⌝ }
     ensures { λ _. ⌜ after bits words slots ≡ putRun 1 (before bits words slots) g (wordsOf (Large k)) ⌝ }
 {
     bitrow::put_bits(bits, g, k + 1, true);
@@ -56,7 +68,11 @@ pub fn put_large(bits: &mut [u64], words: &mut [u32], slots: &[u64], g: usize, k
 
 // The pages of a large run at page g, with k pages behind it, are free again. Only the first has a word to clear.
 pub fn free_large(bits: &mut [u64], words: &mut [u32], slots: &[u64], g: usize, k: usize)
-    requires { ⌜ (k < 511) × (g + suc k ≤ 8192) × (g + suc k ≤ 64 * length (now bits)) × (g + suc k ≤ length (now words)) × ((i : ℕ) → g < i → i < g + suc k → getD (now words) i 0 ≡ 0) ⌝ }
+    requires few { ⌜ k < 511 ⌝ }
+    requires low { ⌜ g + suc k ≤ 8192 ⌝ }
+    requires bit { ⌜ g + suc k ≤ 64 * length (now bits) ⌝ }
+    requires word { ⌜ g + suc k ≤ length (now words) ⌝ }
+    requires zero { ⌜ ((i : ℕ) → g < i → i < g + suc k → getD (now words) i 0 ≡ 0) ⌝ }
     ensures { λ _. ⌜ after bits words slots ≡ putRun 0 (before bits words slots) g (zeros (suc k)) ⌝ }
 {
     bitrow::put_bits(bits, g, k + 1, false);

@@ -21,7 +21,9 @@ pub struct Cell {
 
 // n of s slots in tenths.
 fn level_of(n: usize, s: usize) -> u64
-    requires { ⌜ (n ≤ s) × (0 < s) × (s ≤ 512) ⌝ }
+    requires order { ⌜ n ≤ s ⌝ }
+    requires some { ⌜ 0 < s ⌝ }
+    requires few { ⌜ s ≤ 512 ⌝ }
     ensures { λ r. ⌜ (r ≡ tenths n s) × (r ≤ 10) ⌝ }
 {
     widths::wide64(10 * n / s)
@@ -52,7 +54,9 @@ fn plain_cell(mark: u8, fill: u8, label: u64) -> Cell
 
 // The first page of a run of class b, at page g.
 fn run_cell(taken: &[u64], g: usize, b: usize) -> Cell
-    requires { ⌜ (b < 30) × (512 * g + 512 ≤ 64 * length (now taken)) × (g < 8192) ⌝ }
+    requires class { ⌜ b < 30 ⌝ }
+    requires long { ⌜ 512 * g + 512 ≤ 64 * length (now taken) ⌝ }
+    requires low { ⌜ g < 8192 ⌝ }
     ensures { λ r. ⌜ (r ≡ runCell b (tenths (countBits (now (taken .entry)) (512 * g) (slots b)) (slots b)))
         × (r .joined ≤ 1) × (r .level ≤ 10) ⌝ }
 {
@@ -84,7 +88,9 @@ fn goes_on(last: Cell) -> Cell
 
 // What page g shows, behind the cell `last`, on records that are sound.
 pub fn page_cell(c: u64, bits: &[u64], words: &[u32], slots: &[u64], g: usize, last: Cell) -> Cell
-    requires { ⌜ (admitOf c (lent bits words slots) ≡ 0) × (g < 512 * c) × (last .level ≤ 10) ⌝ }
+    requires sound { ⌜ admitOf c (lent bits words slots) ≡ 0 ⌝ }
+    requires inside { ⌜ g < 512 * c ⌝ }
+    requires level { ⌜ last .level ≤ 10 ⌝ }
     ensures { λ r. ⌜ (r ≡ cellAt (before bits words slots) last g)
         × (r .joined ≤ 1) × (r .level ≤ 10) ⌝ }
 {

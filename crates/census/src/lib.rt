@@ -33,7 +33,10 @@ fn write_block(room: &mut [u64], i: usize, place: usize, size: usize) -> usize
 
 // The first taken slot from slot s on, of the n slots of the run that starts at page g; n where there is none.
 fn next_taken(slots: &[u64], g: usize, s: usize, n: usize) -> usize
-    requires { ⌜ (g < 8192) × (512 * g + 512 ≤ 64 * length (now slots)) × (s ≤ n) × (n ≤ 512) ⌝ }
+    requires low { ⌜ g < 8192 ⌝ }
+    requires long { ⌜ 512 * g + 512 ≤ 64 * length (now slots) ⌝ }
+    requires order { ⌜ s ≤ n ⌝ }
+    requires few { ⌜ n ≤ 512 ⌝ }
     ensures { λ r. ⌜ NextTaken (now (slots .entry)) g s n r ⌝ }
 {
     bitrow::next_bit(slots, 512 * g + s, 512 * g + n, true) - 512 * g
@@ -41,7 +44,10 @@ fn next_taken(slots: &[u64], g: usize, s: usize, n: usize) -> usize
 
 // Writes the blocks of the run of class b that starts at page g, from taken slot to taken slot.
 fn write_slots(slots: &[u64], g: usize, b: usize, room: &mut [u64], i: usize) -> usize
-    requires { ⌜ (g < 8192) × (512 * g + 512 ≤ 64 * length (now slots)) × (b < 30) × (i + 2 * length (slotBlocks (now slots) g b 0 (slotsOf (Class b))) ≤ length (now room)) ⌝ }
+    requires low { ⌜ g < 8192 ⌝ }
+    requires long { ⌜ 512 * g + 512 ≤ 64 * length (now slots) ⌝ }
+    requires class { ⌜ b < 30 ⌝ }
+    requires room { ⌜ i + 2 * length (slotBlocks (now slots) g b 0 (slotsOf (Class b))) ≤ length (now room) ⌝ }
     ensures { λ r. ⌜ Wrote (now (room .exit)) (now (room .entry)) r i (slotBlocks (now (slots .entry)) g b 0 (slotsOf (Class b))) ⌝ }
 {
     let row = classes::class_row(b);
@@ -66,7 +72,9 @@ fn write_page(
     room: &mut [u64],
     i: usize,
 ) -> usize
-    requires { ⌜ (admitOf c (lent bits words slots) ≡ 0) × (g < 512 * c) × (i + 2 * length (pageBlocks (lent bits words slots) g) ≤ length (now room)) ⌝ }
+    requires sound { ⌜ admitOf c (lent bits words slots) ≡ 0 ⌝ }
+    requires inside { ⌜ g < 512 * c ⌝ }
+    requires room { ⌜ i + 2 * length (pageBlocks (lent bits words slots) g) ≤ length (now room) ⌝ }
     ensures { λ r. ⌜ Wrote (now (room .exit)) (now (room .entry)) r i (pageBlocks (before bits words slots) g) ⌝ }
 {
     let k = records::kind_at(c, bits, words, slots, g);

@@ -42,7 +42,9 @@ fn better_gap(best: Gap, n: usize, x: Gap) -> Gap
 
 // The first page of the shortest gap of chunk k that holds n pages. A length of 512 stands for no gap, and page 0 is in none.
 fn find_in_chunk(bits: &[u64], k: usize, n: usize) -> Found
-    requires { ⌜ (8 * k + 8 ≤ length (now bits)) × (k < 16) × (1 ≤ n) ⌝ }
+    requires long { ⌜ 8 * k + 8 ≤ length (now bits) ⌝ }
+    requires low { ⌜ k < 16 ⌝ }
+    requires some { ⌜ 1 ≤ n ⌝ }
     ensures { λ r. ⌜ r ≡ findInChunk (now (bits .entry)) k n ⌝ }
 {
     let to = 512 * k + 512;
@@ -62,7 +64,9 @@ fn find_in_chunk(bits: &[u64], k: usize, n: usize) -> Found
 
 // The first page of n pages, in the first of c chunks that has them.
 pub fn find_pages(c: usize, bits: &[u64], n: usize) -> Found
-    requires { ⌜ (8 * c ≤ length (now bits)) × (c ≤ 16) × (1 ≤ n) ⌝ }
+    requires long { ⌜ 8 * c ≤ length (now bits) ⌝ }
+    requires few { ⌜ c ≤ 16 ⌝ }
+    requires some { ⌜ 1 ≤ n ⌝ }
     ensures { λ r. ⌜ r ≡ findPages c (now (bits .entry)) n ⌝ }
 {
     let mut k = 0;

@@ -44,7 +44,9 @@ pub fn fresh_hints(hints: &mut [u64])
 
 // The first page at which a run of class b with a free slot starts; behind the last page where there is none.
 fn marked_page(c: u64, bits: &[u64], words: &[u32], slots: &[u64], hints: &[u64], b: usize) -> usize
-    requires { ⌜ (Hints c (lent bits words slots) (now hints)) × (c ≤ 16) × (b < 30) ⌝ }
+    requires hinted { ⌜ Hints c (lent bits words slots) (now hints) ⌝ }
+    requires few { ⌜ c ≤ 16 ⌝ }
+    requires class { ⌜ b < 30 ⌝ }
     ensures { λ r. ⌜ r ≡ slotPage (before bits words slots) b 0 (512 * c) ⌝ }
 {
     let row = 8192 * b;
@@ -54,7 +56,9 @@ fn marked_page(c: u64, bits: &[u64], words: &[u32], slots: &[u64], hints: &[u64]
 
 // Page g of class b gets the mark v, and the class its lowest page.
 fn note(hints: &mut [u64], b: usize, g: usize, low: usize, v: bool)
-    requires { ⌜ (length (now hints) ≡ 3930) × (b < 30) × (g < 8192) ⌝ }
+    requires long { ⌜ length (now hints) ≡ 3930 ⌝ }
+    requires class { ⌜ b < 30 ⌝ }
+    requires low { ⌜ g < 8192 ⌝ }
     ensures { λ _. ⌜ now (hints .exit) ≡ noted (now (hints .entry)) b low g v ⌝ }
 {
     hints[3840 + b] = widths::wide64(low);
@@ -63,7 +67,10 @@ fn note(hints: &mut [u64], b: usize, g: usize, low: usize, v: bool)
 
 // A slot of the run of class b at page g was taken; answers its size.
 fn note_slot(slots: &[u64], hints: &mut [u64], g: usize, b: usize) -> u64
-    requires { ⌜ (Cuts (now hints)) × (g < 8192) × (b < 30) × (8 * g + 8 ≤ length (now slots)) ⌝ }
+    requires cuts { ⌜ Cuts (now hints) ⌝ }
+    requires low { ⌜ g < 8192 ⌝ }
+    requires class { ⌜ b < 30 ⌝ }
+    requires long { ⌜ 8 * g + 8 ≤ length (now slots) ⌝ }
     ensures { λ r. ⌜ (now (hints .exit) ≡ notedSlot (now (slots .entry)) (now (hints .entry)) g b) × (r ≡ size b) ⌝ }
 {
     let bytes = hints[3870 + b];
@@ -105,7 +112,12 @@ fn take_slot(
     b: usize,
     n: usize,
 ) -> reserve::Reserved
-    requires { ⌜ (admitOf c (lent bits words slots) ≡ 0) × (Hints c (lent bits words slots) (now hints)) × (b < 30) × (n ≡ slotsOf (Class b)) × (g ≡ slotPage (lent bits words slots) b 0 (512 * c)) × (g < 512 * c) ⌝ }
+    requires sound { ⌜ admitOf c (lent bits words slots) ≡ 0 ⌝ }
+    requires hinted { ⌜ Hints c (lent bits words slots) (now hints) ⌝ }
+    requires class { ⌜ b < 30 ⌝ }
+    requires count { ⌜ n ≡ slotsOf (Class b) ⌝ }
+    requires first { ⌜ g ≡ slotPage (lent bits words slots) b 0 (512 * c) ⌝ }
+    requires inside { ⌜ g < 512 * c ⌝ }
     ensures { λ r. ⌜ (leaves r (after bits words slots) ≡ carried (before bits words slots) (planSlot c (before bits words slots) b)) × (Hints c (after bits words slots) (now (hints .exit))) ⌝ }
 {
     let s = reserve::lowest_free(slots, g, b, n);
@@ -126,7 +138,9 @@ fn carry_out(
     hints: &mut [u64],
     x: reserve::Plan,
 ) -> reserve::Reserved
-    requires { ⌜ (admitOf c (lent bits words slots) ≡ 0) × (Hints c (lent bits words slots) (now hints)) × (IsPlan c (lent bits words slots) x) ⌝ }
+    requires sound { ⌜ admitOf c (lent bits words slots) ≡ 0 ⌝ }
+    requires hinted { ⌜ Hints c (lent bits words slots) (now hints) ⌝ }
+    requires planned { ⌜ IsPlan c (lent bits words slots) x ⌝ }
     ensures { λ r. ⌜ (leaves r (after bits words slots) ≡ carried (before bits words slots) x) × (Hints c (after bits words slots) (now (hints .exit))) ⌝ }
 {
     reserve::perform_plan(c, bits, words, slots, x);

@@ -21,9 +21,12 @@ pub struct Drawn {
 
 // A page as SVG.
 fn put_svg_page(out: &mut [u8], at: usize, g: u64, s: cells::Cell) -> usize
-    requires { ⌜ (at + 420 ≤ length (now out)) × (g < 8192) × (s .joined ≤ 1) × (s .level ≤ 10) ⌝ }
-    ensures { λ r. ⌜ Appends (now (out .entry)) (now (out .exit)) at r (svgPage g s) ⌝ }
-    ensures { λ r. ⌜ r ≤ at + 420 ⌝ }
+    requires room { ⌜ at + 420 ≤ length (now out) ⌝ }
+    requires low { ⌜ g < 8192 ⌝ }
+    requires joined { ⌜ s .joined ≤ 1 ⌝ }
+    requires level { ⌜ s .level ≤ 10 ⌝ }
+    ensures text { λ r. ⌜ Appends (now (out .entry)) (now (out .exit)) at r (svgPage g s) ⌝ }
+    ensures room { λ r. ⌜ r ≤ at + 420 ⌝ }
 {
     let first = (g % 512 == 0) as u64;
     let x = 17 + 16 * (g % 64) - s.joined;
@@ -65,9 +68,12 @@ fn put_svg_page(out: &mut [u8], at: usize, g: u64, s: cells::Cell) -> usize
 
 // A page.
 fn put_page(svg: bool, out: &mut [u8], at: usize, g: u64, s: cells::Cell) -> usize
-    requires { ⌜ (at + pageRoom svg ≤ length (now out)) × (g < 8192) × (s .joined ≤ 1) × (s .level ≤ 10) ⌝ }
-    ensures { λ r. ⌜ Appends (now (out .entry)) (now (out .exit)) at r (pageOf svg g s) ⌝ }
-    ensures { λ r. ⌜ r ≤ at + pageRoom svg ⌝ }
+    requires room { ⌜ at + pageRoom svg ≤ length (now out) ⌝ }
+    requires low { ⌜ g < 8192 ⌝ }
+    requires joined { ⌜ s .joined ≤ 1 ⌝ }
+    requires level { ⌜ s .level ≤ 10 ⌝ }
+    ensures text { λ r. ⌜ Appends (now (out .entry)) (now (out .exit)) at r (pageOf svg g s) ⌝ }
+    ensures room { λ r. ⌜ r ≤ at + pageRoom svg ⌝ }
 {
     if svg {
         return put_svg_page(out, at, g, s);
@@ -81,8 +87,8 @@ fn put_page(svg: bool, out: &mut [u8], at: usize, g: u64, s: cells::Cell) -> usi
 // What stands before the pages.
 fn put_head(svg: bool, out: &mut [u8], c: u64) -> usize
     requires { ⌜ (headRoom svg ≤ length (now out)) × (c ≤ 16) ⌝ }
-    ensures { λ r. ⌜ Appends (now (out .entry)) (now (out .exit)) 0 r (headOf svg c) ⌝ }
-    ensures { λ r. ⌜ r ≤ headRoom svg ⌝ }
+    ensures text { λ r. ⌜ Appends (now (out .entry)) (now (out .exit)) 0 r (headOf svg c) ⌝ }
+    ensures room { λ r. ⌜ r ≤ headRoom svg ⌝ }
 {
     if svg {
         let h = 204 * c + 74;
@@ -102,8 +108,8 @@ fn put_head(svg: bool, out: &mut [u8], c: u64) -> usize
 // What stands behind them.
 fn put_foot(svg: bool, out: &mut [u8], at: usize, c: u64, t: totals::Sums) -> usize
     requires { ⌜ (at + footRoom svg ≤ length (now out)) × (c ≤ 16) ⌝ }
-    ensures { λ r. ⌜ Appends (now (out .entry)) (now (out .exit)) at r (footOf svg c t) ⌝ }
-    ensures { λ r. ⌜ r ≤ at + footRoom svg ⌝ }
+    ensures text { λ r. ⌜ Appends (now (out .entry)) (now (out .exit)) at r (footOf svg c t) ⌝ }
+    ensures room { λ r. ⌜ r ≤ at + footRoom svg ⌝ }
 {
     if svg {
         let y = 204 * c + 20;
@@ -145,9 +151,9 @@ fn put_pages(
     at: usize,
 ) -> usize
     requires { ⌜ (admitOf c (lent bits words slots) ≡ 0) × (at + pageRoom svg * (512 * c) ≤ length (now out)) ⌝ }
-    ensures { λ r. ⌜ Appends (now (out .entry)) (now (out .exit)) at r
+    ensures text { λ r. ⌜ Appends (now (out .entry)) (now (out .exit)) at r
         (pagesFrom svg (before bits words slots) noCell 0 (512 * c)) ⌝ }
-    ensures { λ r. ⌜ r ≤ at + pageRoom svg * (512 * c) ⌝ }
+    ensures room { λ r. ⌜ r ≤ at + pageRoom svg * (512 * c) ⌝ }
 {
     let n = 512 * (c as usize);
     let mut last = cells::Cell {
@@ -177,9 +183,9 @@ fn draw_sound(
     out: &mut [u8],
 ) -> Drawn
     requires { ⌜ (admitOf c (lent bits words slots) ≡ 0) × (roomFor svg c ≤ length (now out)) ⌝ }
-    ensures { λ r. ⌜ leaves r (now (out .exit))
+    ensures drawn { λ r. ⌜ leaves r (now (out .exit))
         ≡ showing svg c (before bits words slots) (now (out .entry)) ⌝ }
-    ensures { λ r. ⌜ r .length ≤ length (now (out .exit)) ⌝ }
+    ensures within { λ r. ⌜ r .length ≤ length (now (out .exit)) ⌝ }
 {
     let i = put_head(svg, out, c);
     let j = put_pages(svg, c, bits, words, slots, out, i);
@@ -205,9 +211,9 @@ fn room_for(svg: bool, c: u64) -> usize
 
 // The drawing, behind the check of the records.
 fn draw(svg: bool, c: u64, bits: &[u64], words: &[u32], slots: &[u64], out: &mut [u8]) -> Drawn
-    ensures { λ r. ⌜ leaves r (now (out .exit))
+    ensures drawn { λ r. ⌜ leaves r (now (out .exit))
         ≡ drawnOf svg c (before bits words slots) (now (out .entry)) ⌝ }
-    ensures { λ r. ⌜ r .length ≤ length (now (out .exit)) ⌝ }
+    ensures within { λ r. ⌜ r .length ≤ length (now (out .exit)) ⌝ }
 {
     let a = admit::admit(c, bits, words, slots);
     if a != 0 {
@@ -228,18 +234,18 @@ fn draw(svg: bool, c: u64, bits: &[u64], words: &[u32], slots: &[u64], out: &mut
 // The map of the pool as text, at the front of the lent buffer. Refusal 1 or 2, or 7 where the buffer is too short for some pool of c
 // chunks: 14,848 bytes for each chunk, and 256.
 pub fn draw_text(c: u64, bits: &[u64], words: &[u32], slots: &[u64], out: &mut [u8]) -> Drawn
-    ensures { λ r. ⌜ leaves r (now (out .exit))
+    ensures drawn { λ r. ⌜ leaves r (now (out .exit))
         ≡ drawnOf false c (before bits words slots) (now (out .entry)) ⌝ }
-    ensures { λ r. ⌜ (r .length ≤ length (now (out .exit))) × (r .length ≡ length (take (r .length) (now (out .exit)))) ⌝ }
+    ensures within { λ r. ⌜ (r .length ≤ length (now (out .exit))) × (r .length ≡ length (take (r .length) (now (out .exit)))) ⌝ }
 {
     draw(false, c, bits, words, slots, out)
 }
 
 // The same as an SVG picture; the room is 215,040 bytes for each chunk, and 2,048.
 pub fn draw_svg(c: u64, bits: &[u64], words: &[u32], slots: &[u64], out: &mut [u8]) -> Drawn
-    ensures { λ r. ⌜ leaves r (now (out .exit))
+    ensures drawn { λ r. ⌜ leaves r (now (out .exit))
         ≡ drawnOf true c (before bits words slots) (now (out .entry)) ⌝ }
-    ensures { λ r. ⌜ (r .length ≤ length (now (out .exit))) × (r .length ≡ length (take (r .length) (now (out .exit)))) ⌝ }
+    ensures within { λ r. ⌜ (r .length ≤ length (now (out .exit))) × (r .length ≡ length (take (r .length) (now (out .exit)))) ⌝ }
 {
     draw(true, c, bits, words, slots, out)
 }

@@ -86,7 +86,9 @@ pub fn kind_at(c: u64, bits: &[u64], words: &[u32], slots: &[u64], g: usize) -> 
 
 // Whether a run of class b starts at page g, on records that are sound: one comparison, for searches that go over all pages.
 pub fn is_run_of(c: u64, bits: &[u64], words: &[u32], slots: &[u64], g: usize, b: usize) -> bool
-    requires { ⌜ (admitOf c (lent bits words slots) ≡ 0) × (g < 512 * c) × (b < 30) ⌝ }
+    requires sound { ⌜ admitOf c (lent bits words slots) ≡ 0 ⌝ }
+    requires inside { ⌜ g < 512 * c ⌝ }
+    requires class { ⌜ b < 30 ⌝ }
     ensures { λ r. ⌜ r ≡ isRunOf b (kindAt (before bits words slots) g) ⌝ }
 {
     words[g] == class_word(b)

@@ -37,7 +37,11 @@ pub struct Sized {
 
 // Byte off of a run of class b that starts at page g and is cut into `count` slots of so many bytes.
 pub fn slot_spot(slots: &[u64], g: usize, b: usize, off: usize, bytes: usize, count: usize) -> Spot
-    requires { ⌜ (g < 8192) × (512 * g + 512 ≤ 64 * length (now slots)) × (b < 30) × (bytes ≡ size b) × (count ≡ slotsOf (Class b)) ⌝ }
+    requires low { ⌜ g < 8192 ⌝ }
+    requires long { ⌜ 512 * g + 512 ≤ 64 * length (now slots) ⌝ }
+    requires class { ⌜ b < 30 ⌝ }
+    requires size { ⌜ bytes ≡ size b ⌝ }
+    requires count { ⌜ count ≡ slotsOf (Class b) ⌝ }
     ensures { λ r. ⌜ r ≡ slotSpot (now (slots .entry)) g b off ⌝ }
 {
     if off % bytes != 0 {

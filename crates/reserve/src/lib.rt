@@ -45,7 +45,10 @@ pub struct Reserved {
 
 // The number of the lowest free slot of the run of class b at page g, which has n slots; n where none is free.
 pub fn lowest_free(slots: &[u64], g: usize, b: usize, n: usize) -> usize
-    requires { ⌜ (g < 8192) × (512 * g + 512 ≤ 64 * length (now slots)) × (n ≡ slotsOf (Class b)) × (n ≤ 512) ⌝ }
+    requires low { ⌜ g < 8192 ⌝ }
+    requires long { ⌜ 512 * g + 512 ≤ 64 * length (now slots) ⌝ }
+    requires count { ⌜ n ≡ slotsOf (Class b) ⌝ }
+    requires few { ⌜ n ≤ 512 ⌝ }
     ensures { λ r. ⌜ r ≡ lowestFree (now (slots .entry)) b g ⌝ }
 {
     bitrow::next_bit(slots, 512 * g, 512 * g + n, false) - 512 * g
@@ -61,7 +64,10 @@ fn has_slot(
     b: usize,
     n: usize,
 ) -> bool
-    requires { ⌜ (admitOf c (lent bits words slots) ≡ 0) × (g < 512 * c) × (b < 30) × (n ≡ slotsOf (Class b)) ⌝ }
+    requires sound { ⌜ admitOf c (lent bits words slots) ≡ 0 ⌝ }
+    requires inside { ⌜ g < 512 * c ⌝ }
+    requires class { ⌜ b < 30 ⌝ }
+    requires count { ⌜ n ≡ slotsOf (Class b) ⌝ }
     ensures { λ r. ⌜ r ≡ hasSlot (before bits words slots) b g ⌝ }
 {
     if !records::is_run_of(c, bits, words, slots, g, b) {
@@ -72,7 +78,9 @@ fn has_slot(
 
 // The first page at which a run of class b with a free slot starts; behind the last page where there is none.
 fn slot_page(c: u64, bits: &[u64], words: &[u32], slots: &[u64], b: usize, n: usize) -> usize
-    requires { ⌜ (admitOf c (lent bits words slots) ≡ 0) × (b < 30) × (n ≡ slotsOf (Class b)) ⌝ }
+    requires sound { ⌜ admitOf c (lent bits words slots) ≡ 0 ⌝ }
+    requires class { ⌜ b < 30 ⌝ }
+    requires count { ⌜ n ≡ slotsOf (Class b) ⌝ }
     ensures { λ r. ⌜ r ≡ slotPage (before bits words slots) b 0 (512 * c) ⌝ }
 {
     let end = 512 * (c as usize);
@@ -96,7 +104,10 @@ pub fn plan_slot(
     n: usize,
     g: usize,
 ) -> Plan
-    requires { ⌜ (admitOf c (lent bits words slots) ≡ 0) × (b < 30) × (n ≡ slotsOf (Class b)) × (g ≡ slotPage (lent bits words slots) b 0 (512 * c)) ⌝ }
+    requires sound { ⌜ admitOf c (lent bits words slots) ≡ 0 ⌝ }
+    requires class { ⌜ b < 30 ⌝ }
+    requires count { ⌜ n ≡ slotsOf (Class b) ⌝ }
+    requires first { ⌜ g ≡ slotPage (lent bits words slots) b 0 (512 * c) ⌝ }
     ensures { λ r. ⌜ r ≡ planSlot c (before bits words slots) b ⌝ }
 {
     if g < 512 * (c as usize) {
@@ -117,7 +128,9 @@ pub fn plan_slot(
 
 // A large run of n pages.
 fn plan_run(c: u64, bits: &[u64], n: usize) -> Plan
-    requires { ⌜ (8 * c ≤ length (now bits)) × (c ≤ 16) × (1 ≤ n) ⌝ }
+    requires long { ⌜ 8 * c ≤ length (now bits) ⌝ }
+    requires few { ⌜ c ≤ 16 ⌝ }
+    requires some { ⌜ 1 ≤ n ⌝ }
     ensures { λ r. ⌜ r ≡ planRun c (now (bits .entry)) n ⌝ }
 {
     let k = n - 1;
@@ -133,7 +146,9 @@ fn plan_run(c: u64, bits: &[u64], n: usize) -> Plan
 
 // A request of more bytes than a slot holds.
 pub fn plan_large(c: u64, bits: &[u64], n: u64) -> Plan
-    requires { ⌜ (8 * c ≤ length (now bits)) × (c ≤ 16) × (3072 < n) ⌝ }
+    requires long { ⌜ 8 * c ≤ length (now bits) ⌝ }
+    requires few { ⌜ c ≤ 16 ⌝ }
+    requires large { ⌜ 3072 < n ⌝ }
     ensures { λ r. ⌜ r ≡ planLarge c (now (bits .entry)) n ⌝ }
 {
     if 2093056 < n {

@@ -43,7 +43,10 @@ fn class_in(k: records::Kind) -> usize
 
 // The live blocks that begin in the run that starts at page g, which is of kind k; row is that of its class, where it is a class run.
 fn page_amount(slots: &[u64], g: usize, k: records::Kind, row: classes::Row) -> Amount
-    requires { ⌜ (512 * g + 512 ≤ 64 * length (now slots)) × (g < 8192) × (spanOf k < 512) × (row ≡ rowAt (classIn k)) ⌝ }
+    requires long { ⌜ 512 * g + 512 ≤ 64 * length (now slots) ⌝ }
+    requires low { ⌜ g < 8192 ⌝ }
+    requires span { ⌜ spanOf k < 512 ⌝ }
+    requires row { ⌜ row ≡ rowAt (classIn k) ⌝ }
     ensures { λ r. ⌜ r ≡ amountOf (blocksAt g k (λ s. isSet (now (slots .entry)) (512 * g + s))) ⌝ }
 {
     match k {

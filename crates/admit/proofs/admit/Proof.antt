@@ -9,19 +9,17 @@ use borrow.Author.Needs.{needs}
 use Rattle.admit.proofs.admit.Statement.{statement}
 use Rattle.admit.proofs.admit.Tie as tie
 
-is-shaped-requires : tie.Need-is-shaped-requires
-is-shaped-requires c κs = search needs
-
 returns : tie.Need-returns
 returns c = admit-unfit _ _ (sym (c .before .is-shaped .ensures) ∙ not-true _ (c .if1 .taken))
 
 mul-pages-sound : tie.Need-mul-pages-sound
-mul-pages-sound c = let l = shaped-lengths _ _ _ _ (sym (c .before .is-shaped .ensures) ∙ not-false _ (c .if1 .left)) in record { fits = omega arith }
+mul-pages-sound c =
+    let l = shaped-lengths _ _ _ _ (sym (c .before .is-shaped .ensures) ∙ not-false _ (c .if1 .left)) in record { fits = omega arith }
 
 pages-sound-requires : tie.Need-pages-sound-requires
 pages-sound-requires c κs =
     let l = shaped-lengths _ _ _ _ (sym (c .before .is-shaped .ensures) ∙ not-false _ (c .if1 .left)) in
-    (omega arith, omega arith, omega arith, omega arith)
+    (omega arith, (omega arith, (omega arith, omega arith)))
 
 returns-2 : tie.Need-returns-2
 returns-2 c =
@@ -34,6 +32,4 @@ returns-3 c =
     (c .before .pages-sound .ensures) (not-false _ (c .if2 .left))
 
 pub admit-spec : {M : Type 1} → statement M
-admit-spec =
-    tie.close
-    (tie.spec is-shaped-requires returns mul-pages-sound pages-sound-requires returns-2 returns-3)
+admit-spec = tie.close (tie.spec (λ c κs. search needs) returns mul-pages-sound pages-sound-requires returns-2 returns-3)

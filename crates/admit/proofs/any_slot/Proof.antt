@@ -16,26 +16,8 @@ Inv-loop slots g i acc₀ j₀ acc j = (j ≤ 8) × (i ≡ 8 * g) × (eqb acc 0 
 abbrev μ-loop : tie.MeasureT-loop
 μ-loop slots g i acc₀ j₀ acc j = 8 - j
 
-mul-i : tie.Need-mul-i Inv-loop μ-loop
-mul-i c = search needs
-
 loop-holds : tie.Need-loop-holds Inv-loop μ-loop
 loop-holds c = (omega arith, refl, all-none _)
-
-add-acc : tie.Need-add-acc Inv-loop μ-loop
-add-acc c = search needs
-
-mul-acc : tie.Need-mul-acc Inv-loop μ-loop
-mul-acc c = search needs
-
-shared-slice-read-acc : tie.Need-shared-slice-read-acc Inv-loop μ-loop
-shared-slice-read-acc c = search needs
-
-add-j : tie.Need-add-j Inv-loop μ-loop
-add-j c = search needs
-
-loop-less : tie.Need-loop-less Inv-loop μ-loop
-loop-less c = search needs
 
 loop-again : tie.Need-loop-again Inv-loop μ-loop
 loop-again c = let v = c .before .before .loop in (omega arith, v .inv .1, any-turn _ _ _ _ (v .acc) (v .inv .1) (v .inv .2))
@@ -47,14 +29,5 @@ pub any-slot-spec : {M : Type 1} → statement M
 any-slot-spec =
     tie.close
     (tie.spec
-    Inv-loop
-    μ-loop
-    mul-i
-    loop-holds
-    add-acc
-    mul-acc
-    shared-slice-read-acc
-    add-j
-    loop-less
-    loop-again
-    returns)
+    Inv-loop μ-loop (λ c. search needs) loop-holds (λ c. search needs) (λ c. search needs) (λ c. search needs) (λ c. search needs)
+    (λ c. search needs) loop-again returns)

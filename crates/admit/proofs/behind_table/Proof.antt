@@ -13,35 +13,11 @@ Inv-loop rows out₀ k₀ out k = (k ≤ 30) × (BehindUp out k)
 abbrev μ-loop : tie.MeasureT-loop
 μ-loop rows out₀ k₀ out k = 30 - k
 
-class-rows-requires : tie.Need-class-rows-requires Inv-loop μ-loop
-class-rows-requires c κs = search needs
-
 loop-holds : tie.Need-loop-holds Inv-loop μ-loop
 loop-holds c = (omega arith, up-start _ refl)
 
-mul-r : tie.Need-mul-r Inv-loop μ-loop
-mul-r c = search needs
-
-array-copy-out-r : tie.Need-array-copy-out-r Inv-loop μ-loop
-array-copy-out-r c = search needs
-
 sub-out : tie.Need-sub-out Inv-loop μ-loop
 sub-out c = row-some _ _ _ (c .before .before .before .before .class-rows .ensures) (omega arith) refl
-
-cast-out : tie.Need-cast-out Inv-loop μ-loop
-cast-out c = search needs
-
-mul-out : tie.Need-mul-out Inv-loop μ-loop
-mul-out c = search needs
-
-array-write-out : tie.Need-array-write-out Inv-loop μ-loop
-array-write-out c = search needs
-
-add-k : tie.Need-add-k Inv-loop μ-loop
-add-k c = search needs
-
-loop-less : tie.Need-loop-less Inv-loop μ-loop
-loop-less c = search needs
 
 loop-again : tie.Need-loop-again Inv-loop μ-loop
 loop-again c = (
@@ -57,17 +33,5 @@ pub behind-table-spec : {M : Type 1} → statement M
 behind-table-spec =
     tie.close
     (tie.spec
-    Inv-loop
-    μ-loop
-    class-rows-requires
-    loop-holds
-    mul-r
-    array-copy-out-r
-    sub-out
-    cast-out
-    mul-out
-    array-write-out
-    add-k
-    loop-less
-    loop-again
-    returns)
+    Inv-loop μ-loop (λ c κs. search needs) loop-holds (λ c. search needs) (λ c. search needs) sub-out (λ c. search needs)
+    (λ c. search needs) (λ c. search needs) (λ c. search needs) (λ c. search needs) loop-again returns)

@@ -14,60 +14,26 @@ Inv-loop bits words slots i left due masks behinds bw₀ l₀ d₀ acc₀ p₀ b
 abbrev μ-loop : tie.MeasureT-loop
 μ-loop bits words slots i left due masks behinds bw₀ l₀ d₀ acc₀ p₀ bw l d acc p = 64 - p
 
-mul-edge-ok : tie.Need-mul-edge-ok Inv-loop μ-loop
-mul-edge-ok c = search needs
-
-mul-edge-ok-2 : tie.Need-mul-edge-ok-2 Inv-loop μ-loop
-mul-edge-ok-2 c = search needs
-
-shared-slice-read-edge-ok : tie.Need-shared-slice-read-edge-ok Inv-loop μ-loop
-shared-slice-read-edge-ok c = search needs
-
-edge-ok-requires : tie.Need-edge-ok-requires Inv-loop μ-loop
-edge-ok-requires c κs = search needs
-
 returns : tie.Need-returns Inv-loop μ-loop
 returns c = let f = c .before .edge-ok .ensures .1 (not-true _ (c .if1 .taken)) in edge-off _ _ _ _ (f .0) (f .1)
-
-mul-bw : tie.Need-mul-bw Inv-loop μ-loop
-mul-bw c = search needs
-
-shared-slice-read-bw : tie.Need-shared-slice-read-bw Inv-loop μ-loop
-shared-slice-read-bw c = search needs
 
 loop-holds : tie.Need-loop-holds Inv-loop μ-loop
 loop-holds c =
     let d = c .before .before .before .before .before .before .before in
-    (omega arith, walked-start _ _ _ _ (d .pre .6) (c .before .before .edge-ok .ensures .0 (not-false _ (c .before .if1 .left))))
-
-mul-g : tie.Need-mul-g Inv-loop μ-loop
-mul-g c = search needs
-
-add-g : tie.Need-add-g Inv-loop μ-loop
-add-g c = search needs
-
-mul-w : tie.Need-mul-w Inv-loop μ-loop
-mul-w c = search needs
-
-shared-slice-read-w : tie.Need-shared-slice-read-w Inv-loop μ-loop
-shared-slice-read-w c = search needs
+    let (low, (bit, (word, (slot, (table, (behind, ready)))))) = d .pre in
+    (omega arith, walked-start _ _ _ _ ready (c .before .before .edge-ok .ensures .0 (not-false _ (c .before .if1 .left))))
 
 page-requires : tie.Need-page-requires Inv-loop μ-loop
 page-requires c κs =
     let d = c .before .before .before .before .before .before .before .before .before .before in
-    (omega arith, omega arith, d .pre .4, d .pre .5, c .before .before .loop .inv .1 .ready)
+    let (low, (bit, (word, (slot, (table, (behind, ready)))))) = d .pre in
+    (omega arith, (omega arith, (table, (behind, c .before .before .loop .inv .1 .ready))))
 
 returns-2 : tie.Need-returns-2 Inv-loop μ-loop
 returns-2 c =
     let d = c .before .before .before .before .before in let e = d .before .before .before .before .before in
     walked-off (d .loop .inv .1) (omega arith) (λ j. e .shared-slice-known3 .given j .fits) (c .before .before .page .ensures) (not-true _
     (c .if2 .taken))
-
-add-p : tie.Need-add-p Inv-loop μ-loop
-add-p c = search needs
-
-loop-less : tie.Need-loop-less Inv-loop μ-loop
-loop-less c = search needs
 
 loop-again : tie.Need-loop-again Inv-loop μ-loop
 loop-again c =
@@ -84,23 +50,6 @@ pub mixed-64-spec : {M : Type 1} → statement M
 mixed-64-spec =
     tie.close
     (tie.spec
-    Inv-loop
-    μ-loop
-    mul-edge-ok
-    mul-edge-ok-2
-    shared-slice-read-edge-ok
-    edge-ok-requires
-    returns
-    mul-bw
-    shared-slice-read-bw
-    loop-holds
-    mul-g
-    add-g
-    mul-w
-    shared-slice-read-w
-    page-requires
-    returns-2
-    add-p
-    loop-less
-    loop-again
-    returns-3)
+    Inv-loop μ-loop (λ c. search needs) (λ c. search needs) (λ c. search needs) (λ c κs. search needs) returns (λ c. search needs)
+    (λ c. search needs) loop-holds (λ c. search needs) (λ c. search needs) (λ c. search needs) (λ c. search needs) page-requires
+    returns-2 (λ c. search needs) (λ c. search needs) loop-again returns-3)

@@ -7,11 +7,8 @@ use Rattle.admit.proofs.next_word.Tie as tie
 returns : tie.Need-returns
 returns c = after-zero _ (c .if1 .taken)
 
-add-result : tie.Need-add-result
-add-result c = search needs
-
 returns-2 : tie.Need-returns-2
 returns-2 c = after-more _ (c .if1 .left)
 
 pub next-word-spec : {M : Type 1} → statement M
-next-word-spec = tie.close (tie.spec returns add-result returns-2)
+next-word-spec = tie.close (tie.spec returns (λ c. search needs) returns-2)

@@ -17,46 +17,16 @@ Inv-loop ss g masks b i m acc₀ j₀ acc j = (j ≤ 8) × (i ≡ 8 * g) × (m �
 abbrev μ-loop : tie.MeasureT-loop
 μ-loop ss g masks b i m acc₀ j₀ acc j = 8 - j
 
-mul-i : tie.Need-mul-i Inv-loop μ-loop
-mul-i c = search needs
-
-mul-m : tie.Need-mul-m Inv-loop μ-loop
-mul-m c = search needs
-
 loop-holds : tie.Need-loop-holds Inv-loop μ-loop
 loop-holds c = (omega arith, refl, refl, all-none _)
 
-add-acc : tie.Need-add-acc Inv-loop μ-loop
-add-acc c = search needs
-
-mul-acc : tie.Need-mul-acc Inv-loop μ-loop
-mul-acc c = search needs
-
-shared-slice-read-acc : tie.Need-shared-slice-read-acc Inv-loop μ-loop
-shared-slice-read-acc c = search needs
-
-add-acc-2 : tie.Need-add-acc-2 Inv-loop μ-loop
-add-acc-2 c = search needs
-
-mul-acc-2 : tie.Need-mul-acc-2 Inv-loop μ-loop
-mul-acc-2 c = search needs
-
-element-copy-out-acc : tie.Need-element-copy-out-acc Inv-loop μ-loop
-element-copy-out-acc c = search needs
-
-add-j : tie.Need-add-j Inv-loop μ-loop
-add-j c = search needs
-
-loop-less : tie.Need-loop-less Inv-loop μ-loop
-loop-less c = search needs
-
 loop-again : tie.Need-loop-again Inv-loop μ-loop
 loop-again c =
-    let d = c .before .before .before .before in let v = c .before .before .before .loop in (
+    let d = c .before .before .before .before in let (low, (long, (class, table))) = d .pre in let v = c .before .before .before .loop in (
       omega arith,
       v .inv .1,
       v .inv .2,
-      stray-turn _ _ _ _ _ _ _ (v .acc) (v .inv .1) (v .inv .2) (d .pre .3) (d .pre .2) (omega arith)
+      stray-turn _ _ _ _ _ _ _ (v .acc) (v .inv .1) (v .inv .2) table class (omega arith)
           (c .before .shared-slice-known .given _ .fits) (v .inv .3),
     )
 
@@ -67,18 +37,5 @@ pub stray-slot-spec : {M : Type 1} → statement M
 stray-slot-spec =
     tie.close
     (tie.spec
-    Inv-loop
-    μ-loop
-    mul-i
-    mul-m
-    loop-holds
-    add-acc
-    mul-acc
-    shared-slice-read-acc
-    add-acc-2
-    mul-acc-2
-    element-copy-out-acc
-    add-j
-    loop-less
-    loop-again
-    returns)
+    Inv-loop μ-loop (λ c. search needs) (λ c. search needs) loop-holds (λ c. search needs) (λ c. search needs) (λ c. search needs)
+    (λ c. search needs) (λ c. search needs) (λ c. search needs) (λ c. search needs) (λ c. search needs) loop-again returns)

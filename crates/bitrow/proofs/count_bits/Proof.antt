@@ -39,9 +39,6 @@ sub-least c = omega arith
 sub-least-2 : tie.Need-sub-least-2 Inv-loop μ-loop
 sub-least-2 c = omega arith
 
-least-requires : tie.Need-least-requires Inv-loop μ-loop
-least-requires c κs = search needs
-
 mask-requires : tie.Need-mask-requires Inv-loop μ-loop
 mask-requires c κs = omega arith
 
@@ -106,19 +103,5 @@ pub count-bits-spec : {M : Type 1} → statement M
 count-bits-spec =
     tie.close
     (tie.spec
-    Inv-loop
-    μ-loop
-    add-to
-    loop-holds
-    sub-least
-    sub-least-2
-    least-requires
-    mask-requires
-    mul-sum
-    shared-slice-read-sum
-    cast-sum
-    add-sum
-    add-i
-    loop-less
-    loop-again
-    returns)
+    Inv-loop μ-loop add-to loop-holds sub-least sub-least-2 (λ c κs. search needs) mask-requires mul-sum shared-slice-read-sum cast-sum
+    add-sum add-i loop-less loop-again returns)

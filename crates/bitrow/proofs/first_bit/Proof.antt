@@ -4,12 +4,6 @@ use borrow.Author.Needs.{needs}
 use Rattle.bitrow.proofs.first_bit.Statement.{statement}
 use Rattle.bitrow.proofs.first_bit.Tie as tie
 
-first-one-requires : tie.Need-first-one-requires
-first-one-requires c κs = search needs
-
-first-zero-requires : tie.Need-first-zero-requires
-first-zero-requires c κs = search needs
-
 returns : tie.Need-returns
 returns c = rw (c .before .if1 .taken) (c .first-one .ensures)
 
@@ -17,4 +11,4 @@ returns-2 : tie.Need-returns-2
 returns-2 c = rw (c .before .if1 .left) (c .first-zero .ensures)
 
 pub first-bit-spec : {M : Type 1} → statement M
-first-bit-spec = tie.close (tie.spec first-one-requires first-zero-requires returns returns-2)
+first-bit-spec = tie.close (tie.spec (λ c κs. search needs) (λ c κs. search needs) returns returns-2)

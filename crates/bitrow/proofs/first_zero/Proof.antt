@@ -10,9 +10,6 @@ use borrow.Author.Needs.{needs}
 use Rattle.bitrow.proofs.first_zero.Statement.{statement}
 use Rattle.bitrow.proofs.first_zero.Tie as tie
 
-wrapping-add-u64-requires : tie.Need-wrapping-add-u64-requires
-wrapping-add-u64-requires c κs = search needs
-
 returns : tie.Need-returns
 returns c =
     let w = c .before .args .w in
@@ -20,4 +17,4 @@ returns c =
     (trailing-lowest 64 0 w (omega arith))
 
 pub first-zero-spec : {M : Type 1} → statement M
-first-zero-spec = tie.close (tie.spec wrapping-add-u64-requires returns)
+first-zero-spec = tie.close (tie.spec (λ c κs. search needs) returns)

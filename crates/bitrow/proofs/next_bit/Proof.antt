@@ -32,17 +32,8 @@ shared-slice-read-w c = omega arith
 shr-first-bit : tie.Need-shr-first-bit Inv-loop μ-loop
 shr-first-bit c = omega arith
 
-first-bit-requires : tie.Need-first-bit-requires Inv-loop μ-loop
-first-bit-requires c κs = search needs
-
-cast-t : tie.Need-cast-t Inv-loop μ-loop
-cast-t c = search needs
-
 add-least : tie.Need-add-least Inv-loop μ-loop
 add-least c = omega arith
-
-least-requires : tie.Need-least-requires Inv-loop μ-loop
-least-requires c κs = search needs
 
 returns : tie.Need-returns Inv-loop μ-loop
 returns c =
@@ -78,19 +69,5 @@ pub next-bit-spec : {M : Type 1} → statement M
 next-bit-spec =
     tie.close
     (tie.spec
-    Inv-loop
-    μ-loop
-    loop-holds
-    sub-left
-    mul-w
-    shared-slice-read-w
-    shr-first-bit
-    first-bit-requires
-    cast-t
-    add-least
-    least-requires
-    returns
-    add-q
-    loop-less
-    loop-again
-    returns-2)
+    Inv-loop μ-loop loop-holds sub-left mul-w shared-slice-read-w shr-first-bit (λ c κs. search needs) (λ c. search needs) add-least
+    (λ c κs. search needs) returns add-q loop-less loop-again returns-2)

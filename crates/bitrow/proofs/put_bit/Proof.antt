@@ -5,15 +5,9 @@ use borrow.Author.Needs.{needs}
 use Rattle.bitrow.proofs.put_bit.Statement.{statement}
 use Rattle.bitrow.proofs.put_bit.Tie as tie
 
-put-in-word-requires : tie.Need-put-in-word-requires
-put-in-word-requires c κs = search needs
-
-same-length : tie.Need-same-length
-same-length c = search needs
-
 returns : tie.Need-returns
 unfolding putBits
 returns c = c .before .before .put-in-word .ensures
 
 pub put-bit-spec : {M : Type 1} → statement M
-put-bit-spec = tie.close (tie.spec put-in-word-requires same-length returns)
+put-bit-spec = tie.close (tie.spec (λ c κs. search needs) (λ c. search needs) returns)

@@ -38,9 +38,6 @@ sub-least c = omega arith
 sub-least-2 : tie.Need-sub-least-2 Inv-loop μ-loop
 sub-least-2 c = omega arith
 
-least-requires : tie.Need-least-requires Inv-loop μ-loop
-least-requires c κs = search needs
-
 put-in-word-requires : tie.Need-put-in-word-requires Inv-loop μ-loop
 put-in-word-requires c κs = omega arith
 
@@ -75,16 +72,5 @@ pub put-bits-spec : {M : Type 1} → statement M
 put-bits-spec =
     tie.close
     (tie.spec
-    Inv-loop
-    μ-loop
-    add-to
-    loop-holds
-    sub-least
-    sub-least-2
-    least-requires
-    put-in-word-requires
-    add-i
-    loop-less
-    loop-again
-    same-length
-    returns)
+    Inv-loop μ-loop add-to loop-holds sub-least sub-least-2 (λ c κs. search needs) put-in-word-requires add-i loop-less loop-again
+    same-length returns)

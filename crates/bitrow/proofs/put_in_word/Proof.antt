@@ -12,27 +12,6 @@ use borrow.Author.Needs.{needs}
 use Rattle.bitrow.proofs.put_in_word.Statement.{statement}
 use Rattle.bitrow.proofs.put_in_word.Tie as tie
 
-mask-requires : tie.Need-mask-requires
-mask-requires c κs = search needs
-
-mul-w : tie.Need-mul-w
-mul-w c = search needs
-
-slice-read-w : tie.Need-slice-read-w
-slice-read-w c = search needs
-
-put-mask-requires : tie.Need-put-mask-requires
-put-mask-requires c κs = search needs
-
-mul-words : tie.Need-mul-words
-mul-words c = search needs
-
-slice-write-words : tie.Need-slice-write-words
-slice-write-words c = search needs
-
-same-length : tie.Need-same-length
-same-length c = search needs
-
 returns : tie.Need-returns
 returns c =
     let start = c .before .before .before .before in
@@ -46,11 +25,5 @@ pub put-in-word-spec : {M : Type 1} → statement M
 put-in-word-spec =
     tie.close
     (tie.spec
-    mask-requires
-    mul-w
-    slice-read-w
-    put-mask-requires
-    mul-words
-    slice-write-words
-    same-length
-    returns)
+    (λ c κs. search needs) (λ c. search needs) (λ c. search needs) (λ c κs. search needs) (λ c. search needs) (λ c. search needs)
+    (λ c. search needs) returns)

@@ -15,10 +15,12 @@ abbrev μ-loop : tie.MeasureT-loop
 μ-loop words₀ g b n k₀ words k = n - k
 
 slice-write-words : tie.Need-slice-write-words Inv-loop μ-loop
-slice-write-words c = let e = c .before .before .pre in let k = run-pages (e .2) (e .3) in omega arith
+slice-write-words c = let (low, (word, (class, count))) = c .before .before .pre in let k = run-pages class count in omega arith
 
 loop-holds : tie.Need-loop-holds Inv-loop μ-loop
-loop-holds c = let e = c .before .before .pre in let k = run-pages (e .2) (e .3) in (omega arith, omega arith, written-none _ _ _ _)
+loop-holds c =
+    let (low, (word, (class, count))) = c .before .before .pre in let k = run-pages class count in
+    (omega arith, omega arith, written-none _ _ _ _)
 
 slice-write-words-2 : tie.Need-slice-write-words-2 Inv-loop μ-loop
 slice-write-words-2 c =
@@ -35,8 +37,8 @@ same-length c =
 
 returns : tie.Need-returns Inv-loop μ-loop
 returns c =
-    let d = c .before .before in let e = d .before .before in
-    written-all (e .args .words .now) (c .before .loop .inv .2) (omega arith) (e .pre .3) _ (d .class-word .ensures) refl
+    let d = c .before .before in let e = d .before .before in let (low, (word, (class, count))) = e .pre in
+    written-all (e .args .words .now) (c .before .loop .inv .2) (omega arith) count _ (d .class-word .ensures) refl
 
 pub class-words-spec : {M : Type 1} → statement M
 class-words-spec =

@@ -7,17 +7,20 @@ use Rattle.blocks.proofs.put_class.Statement.{statement}
 use Rattle.blocks.proofs.put_class.Tie as tie
 
 put-bits-requires : tie.Need-put-bits-requires
-put-bits-requires c κs = let e = pages-read _ (c .before .before .class-row .ensures) (c .before .wide16 .ensures) in (omega arith, omega arith)
+put-bits-requires c κs =
+    let e = pages-read _ (c .before .before .class-row .ensures) (c .before .wide16 .ensures) in (omega arith, omega arith)
 
 class-words-requires : tie.Need-class-words-requires
 class-words-requires c κs =
     let wide = c .before .before .before .before .before in let start = wide .before .before .before .before .before in
-    let e = pages-read _ (wide .before .class-row .ensures) (wide .wide16 .ensures) in (omega arith, omega arith, start .pre .0, e)
+    let (class, (low, (bit, word))) = start .pre in
+    let e = pages-read _ (wide .before .class-row .ensures) (wide .wide16 .ensures) in (omega arith, (omega arith, (class, e)))
 
 returns : tie.Need-returns
 returns c =
-    let puts = c .before .before .before .before .before .before in let wide = puts .before .before in let start = wide .before .before .before .before .before in
-    class-stored _ _ _ _ (start .pre .0) (pages-read _ (wide .before .class-row .ensures) (wide .wide16 .ensures)) _ _ (puts .put-bits .ensures)
+    let puts = c .before .before .before .before .before .before in let wide = puts .before .before in
+    let start = wide .before .before .before .before .before in let (class, (low, (bit, word))) = start .pre in
+    class-stored _ _ _ _ class (pages-read _ (wide .before .class-row .ensures) (wide .wide16 .ensures)) _ _ (puts .put-bits .ensures)
     (c .before .before .class-words .ensures)
 
 pub put-class-spec : {M : Type 1} → statement M

@@ -6,23 +6,14 @@ use Rattle.bytes.proofs.PartLaws.{part-unfit, part-refused, part-served
 use Rattle.bytes.proofs.part_of.Statement.{statement}
 use Rattle.bytes.proofs.part_of.Tie as tie
 
-ear-fits-requires : tie.Need-ear-fits-requires
-ear-fits-requires c κs = search needs
-
 returns : tie.Need-returns
 returns c = part-unfit _ _ _ _ _ _ (c .before .ear-fits .ensures) (not-true _ (c .if1 .taken))
-
-admit-requires : tie.Need-admit-requires
-admit-requires c κs = search needs
 
 returns-2 : tie.Need-returns-2
 returns-2 c =
     let check = c .before in let ear = check .before .before in
     part-refused _ _ _ _ _ _ (ear .ear-fits .ensures) (not-false _ (check .before .if1 .left))
     (size-refused _ _ _ _ (check .admit .ensures) (c .if2 .taken)) (c .if2 .taken)
-
-size-sound-requires : tie.Need-size-sound-requires
-size-sound-requires c κs = search needs
 
 returns-3 : tie.Need-returns-3
 returns-3 c =
@@ -37,4 +28,7 @@ returns-4 c =
     (size-served _ _ _ _ (check .admit .ensures) (sized .before .if2 .left) (sized .size-sound .ensures)) (c .if3 .left)
 
 pub part-of-spec : {M : Type 1} → statement M
-part-of-spec = tie.close (tie.spec ear-fits-requires returns admit-requires returns-2 size-sound-requires returns-3 returns-4)
+part-of-spec =
+    tie.close
+    (tie.spec
+    (λ c κs. search needs) returns (λ c κs. search needs) returns-2 (λ c κs. search needs) returns-3 returns-4)

@@ -4,12 +4,6 @@ use borrow.Author.Needs.{needs}
 use Rattle.cells.proofs.level_mark.Statement.{statement}
 use Rattle.cells.proofs.level_mark.Tie as tie
 
-cast-result : tie.Need-cast-result
-cast-result c = search needs
-
-add-result : tie.Need-add-result
-add-result c = search needs
-
 returns : tie.Need-returns
 returns c = mark-digit _ (c .if1 .taken)
 
@@ -17,4 +11,4 @@ returns-2 : tie.Need-returns-2
 returns-2 c = mark-full _ (c .if1 .left)
 
 pub level-mark-spec : {M : Type 1} → statement M
-level-mark-spec = tie.close (tie.spec cast-result add-result returns returns-2)
+level-mark-spec = tie.close (tie.spec (λ c. search needs) (λ c. search needs) returns returns-2)

@@ -6,33 +6,17 @@ use borrow.Author.Needs.{needs}
 use Rattle.cells.proofs.run_cell.Statement.{statement}
 use Rattle.cells.proofs.run_cell.Tie as tie
 
-class-row-requires : tie.Need-class-row-requires
-class-row-requires c κs = search needs
-
-wide16-requires : tie.Need-wide16-requires
-wide16-requires c κs = search needs
-
-mul-count-bits : tie.Need-mul-count-bits
-mul-count-bits c = search needs
-
 count-bits-requires : tie.Need-count-bits-requires
 count-bits-requires c κs =
-    let s = run-slots _ (c .before .before .before .pre .0) (c .before .class-row .ensures) (c .wide16 .ensures) in
+    let (class, (long, low)) = c .before .before .before .pre in
+    let s = run-slots _ class (c .before .class-row .ensures) (c .wide16 .ensures) in
     (omega arith, omega arith)
 
 level-of-requires : tie.Need-level-of-requires
 level-of-requires c κs =
-    let s = run-slots _ (c .before .before .before .before .pre .0) (c .before .before .class-row .ensures) (c .before .wide16 .ensures) in
-    (run-most _ _ (c .count-bits .ensures), s .0, s .1)
-
-level-mark-requires : tie.Need-level-mark-requires
-level-mark-requires c κs = search needs
-
-wide16-requires-2 : tie.Need-wide16-requires-2
-wide16-requires-2 c κs = search needs
-
-wide64-requires : tie.Need-wide64-requires
-wide64-requires c κs = search needs
+    let (class, (long, low)) = c .before .before .before .before .pre in
+    let s = run-slots _ class (c .before .before .class-row .ensures) (c .before .wide16 .ensures) in
+    (run-most _ _ (c .count-bits .ensures), (s .0, s .1))
 
 returns : tie.Need-returns
 returns c =
@@ -49,12 +33,5 @@ pub run-cell-spec : {M : Type 1} → statement M
 run-cell-spec =
     tie.close
     (tie.spec
-    class-row-requires
-    wide16-requires
-    mul-count-bits
-    count-bits-requires
-    level-of-requires
-    level-mark-requires
-    wide16-requires-2
-    wide64-requires
-    returns)
+    (λ c κs. search needs) (λ c κs. search needs) (λ c. search needs) count-bits-requires level-of-requires (λ c κs. search needs)
+    (λ c κs. search needs) (λ c κs. search needs) returns)

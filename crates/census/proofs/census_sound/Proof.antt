@@ -5,20 +5,8 @@ use borrow.Author.Needs.{needs}
 use Rattle.census.proofs.census_sound.Statement.{statement}
 use Rattle.census.proofs.census_sound.Tie as tie
 
-live-count-requires : tie.Need-live-count-requires
-live-count-requires c κs = search needs
-
 returns : tie.Need-returns
 returns c = listed-none _ _ _ _ (c .before .live-count .ensures) (omega arith)
-
-write-pages-requires : tie.Need-write-pages-requires
-write-pages-requires c κs = search needs
-
-wide64-requires : tie.Need-wide64-requires
-wide64-requires c κs = search needs
-
-same-length : tie.Need-same-length
-same-length c = search needs
 
 returns-2 : tie.Need-returns-2
 returns-2 c =
@@ -29,9 +17,4 @@ pub census-sound-spec : {M : Type 1} → statement M
 census-sound-spec =
     tie.close
     (tie.spec
-    live-count-requires
-    returns
-    write-pages-requires
-    wide64-requires
-    same-length
-    returns-2)
+    (λ c κs. search needs) returns (λ c κs. search needs) (λ c κs. search needs) (λ c. search needs) returns-2)

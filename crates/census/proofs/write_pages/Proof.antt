@@ -29,13 +29,7 @@ loop-holds c =
 write-page-requires : tie.Need-write-page-requires Inv-loop μ-loop
 write-page-requires c κs =
     let d = c .before .before .before .before .before .before .before in
-    (d .pre .0, omega arith, page-room _ _ (c .before .before .loop .inv .3) (omega arith) (omega (arith, d .pre .1)))
-
-add-g : tie.Need-add-g Inv-loop μ-loop
-add-g c = search needs
-
-loop-less : tie.Need-loop-less Inv-loop μ-loop
-loop-less c = search needs
+    (d .pre .0, (omega arith, page-room _ _ (c .before .before .loop .inv .3) (omega arith) (omega (arith, d .pre .1))))
 
 loop-again : tie.Need-loop-again Inv-loop μ-loop
 loop-again c =
@@ -52,13 +46,4 @@ pub write-pages-spec : {M : Type 1} → statement M
 write-pages-spec =
     tie.close
     (tie.spec
-    Inv-loop
-    μ-loop
-    mul-end
-    loop-holds
-    write-page-requires
-    add-g
-    loop-less
-    loop-again
-    same-length
-    returns)
+    Inv-loop μ-loop mul-end loop-holds write-page-requires (λ c. search needs) (λ c. search needs) loop-again same-length returns)

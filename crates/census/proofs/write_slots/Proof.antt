@@ -20,45 +20,39 @@ Inv-loop slots g b room₀ i size n k₀ s₀ room k s = (s ≤ n) × (s < n →
 abbrev μ-loop : tie.MeasureT-loop
 μ-loop slots g b room₀ i size n k₀ s₀ room k s = n - s
 
-class-row-requires : tie.Need-class-row-requires Inv-loop μ-loop
-class-row-requires c κs = search needs
-
-wide16-requires : tie.Need-wide16-requires Inv-loop μ-loop
-wide16-requires c κs = search needs
-
-wide16-requires-2 : tie.Need-wide16-requires-2 Inv-loop μ-loop
-wide16-requires-2 c κs = search needs
-
 next-taken-requires : tie.Need-next-taken-requires Inv-loop μ-loop
 next-taken-requires c κs =
     let k = cut (c .before .before .class-row .ensures) (c .before .wide16 .ensures) (c .wide162 .ensures) in
-    (omega arith, omega arith, omega arith, cut-few k)
+    (omega arith, (omega arith, (omega arith, cut-few k)))
 
 loop-holds : tie.Need-loop-holds Inv-loop μ-loop
 loop-holds c =
     let k = cut (c .before .before .before .class-row .ensures) (c .before .before .wide16 .ensures) (c .before .wide162 .ensures) in
     let t = c .next-taken .ensures in (t .high, t .here, k, writing-none _ _ _ _ (slots-start _ _ _ k t))
 
-mul-write-block : tie.Need-mul-write-block Inv-loop μ-loop
-mul-write-block c = search needs
-
 mul-write-block-2 : tie.Need-mul-write-block-2 Inv-loop μ-loop
-mul-write-block-2 c = let m = cut-offset {s = c .before .before .loop .s} (c .before .before .loop .inv .2) (omega arith) in record { fits = omega arith }
+mul-write-block-2 c =
+    let turn = c .before .before in let m = cut-offset {s = turn .loop .s} (turn .loop .inv .2) (omega arith) in
+    record { fits = omega arith }
 
 add-write-block : tie.Need-add-write-block Inv-loop μ-loop
-add-write-block c = let m = cut-offset {s = c .before .before .loop .s} (c .before .before .loop .inv .2) (omega arith) in record { fits = omega arith }
+add-write-block c =
+    let turn = c .before .before in let m = cut-offset {s = turn .loop .s} (turn .loop .inv .2) (omega arith) in
+    record { fits = omega arith }
 
 write-block-requires : tie.Need-write-block-requires Inv-loop μ-loop
 write-block-requires c κs =
-    let d = c .before .before .before .before .before .before .before .before .before in
-    slot-room _ _ _ (c .before .before .loop .inv .2) (c .before .before .loop .inv .3) (omega arith) (c .before .before .loop .inv .1
-    (omega arith)) (d .pre .3)
+    let turn = c .before .before in let d = turn .before .before .before .before .before .before .before in
+    let (low, (long, (class, room))) = d .pre in
+    slot-room _ _ _ (turn .loop .inv .2) (turn .loop .inv .3) (omega arith) (turn .loop .inv .1
+    (omega arith)) room
 
 add-next-taken : tie.Need-add-next-taken Inv-loop μ-loop
 add-next-taken c = let k = cut-few (c .before .before .before .before .before .loop .inv .2) in record { fits = omega arith }
 
 next-taken-requires-2 : tie.Need-next-taken-requires-2 Inv-loop μ-loop
-next-taken-requires-2 c κs = let k = c .before .before .before .before .before .loop .inv .2 in (omega arith, omega arith, omega arith, cut-few k)
+next-taken-requires-2 c κs =
+    let k = c .before .before .before .before .before .loop .inv .2 in (omega arith, (omega arith, (omega arith, cut-few k)))
 
 loop-less : tie.Need-loop-less Inv-loop μ-loop
 loop-less c = let t = c .next-taken2 .ensures in omega arith
@@ -83,20 +77,6 @@ pub write-slots-spec : {M : Type 1} → statement M
 write-slots-spec =
     tie.close
     (tie.spec
-    Inv-loop
-    μ-loop
-    class-row-requires
-    wide16-requires
-    wide16-requires-2
-    next-taken-requires
-    loop-holds
-    mul-write-block
-    mul-write-block-2
-    add-write-block
-    write-block-requires
-    add-next-taken
-    next-taken-requires-2
-    loop-less
-    loop-again
-    same-length
-    returns)
+    Inv-loop μ-loop (λ c κs. search needs) (λ c κs. search needs) (λ c κs. search needs) next-taken-requires loop-holds
+    (λ c. search needs) mul-write-block-2 add-write-block write-block-requires add-next-taken next-taken-requires-2 loop-less loop-again
+    same-length returns)

@@ -14,9 +14,6 @@ use Rattle.classes.proofs.class_of.Tie as tie
 returns : tie.Need-returns
 returns c = let h = c .before .pre in omega (arith, c .if1 .taken, up-to-64 h (omega arith))
 
-sub-last : tie.Need-sub-last
-sub-last c = search needs
-
 returns-2 : tie.Need-returns-2
 returns-2 c = up-to-64 (c .before .before .pre) (c .if2 .taken)
 
@@ -29,14 +26,8 @@ sub-length c = leading-le _ _
 sub-low : tie.Need-sub-low
 sub-low c = let h = c .before .before .pre in le-trans (lit≤ tt) (long (omega arith) (omega arith))
 
-shr-result : tie.Need-shr-result
-shr-result c = search needs
-
 sub-result : tie.Need-sub-result
 sub-result c = let h = c .before .before .pre in length-left (omega arith) (omega arith) _ _ (lit≤ tt)
-
-mul-result : tie.Need-mul-result
-mul-result c = search needs
 
 add-result : tie.Need-add-result
 add-result c = let h = c .before .before .pre in record { fits = add-lt-pow 63 (lt-of-le-of-lt (shr-le _ _) (omega arith)) (omega arith) }
@@ -47,4 +38,6 @@ returns-3 c = above-64 (c .before .before .pre) (c .if2 .left) _ refl
 pub class-of-spec : {M : Type 1} → statement M
 class-of-spec =
     tie.close
-    (tie.spec returns sub-last returns-2 cast-length sub-length sub-low shr-result sub-result mul-result add-result returns-3)
+    (tie.spec
+    returns (λ c. search needs) returns-2 cast-length sub-length sub-low (λ c. search needs) sub-result (λ c. search needs) add-result
+    returns-3)

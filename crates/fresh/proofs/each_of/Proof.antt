@@ -4,9 +4,6 @@ use borrow.Author.Needs.{needs}
 use Rattle.fresh.proofs.each_of.Statement.{statement}
 use Rattle.fresh.proofs.each_of.Tie as tie
 
-rem-if1 : tie.Need-rem-if1
-rem-if1 c = search needs
-
 returns : tie.Need-returns
 returns c = each-is _ _ _ (c .if1 .taken)
 
@@ -14,4 +11,4 @@ returns-2 : tie.Need-returns-2
 returns-2 c = each-not _ _ _ (c .if1 .left)
 
 pub each-of-spec : {M : Type 1} → statement M
-each-of-spec = tie.close (tie.spec rem-if1 returns returns-2)
+each-of-spec = tie.close (tie.spec (λ c. search needs) returns returns-2)

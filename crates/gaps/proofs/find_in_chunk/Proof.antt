@@ -15,26 +15,11 @@ Inv-loop bits k n to p₀ best₀ p best = (to ≡ 512 * k + 512) × (512 * k + 
 abbrev μ-loop : tie.MeasureT-loop
 μ-loop bits k n to p₀ best₀ p best = to - p
 
-mul-to : tie.Need-mul-to Inv-loop μ-loop
-mul-to c = search needs
-
-add-to : tie.Need-add-to Inv-loop μ-loop
-add-to c = search needs
-
-mul-p : tie.Need-mul-p Inv-loop μ-loop
-mul-p c = search needs
-
-add-p : tie.Need-add-p Inv-loop μ-loop
-add-p c = search needs
-
 loop-holds : tie.Need-loop-holds Inv-loop μ-loop
 loop-holds c = (refl, omega arith, omega arith, best-start (c .before .args .bits .now) (c .before .args .k) _ _ _ refl refl)
 
 next-gap-requires : tie.Need-next-gap-requires Inv-loop μ-loop
 next-gap-requires c κs = omega arith
-
-better-gap-requires : tie.Need-better-gap-requires Inv-loop μ-loop
-better-gap-requires c κs = search needs
 
 add-p-2 : tie.Need-add-p-2 Inv-loop μ-loop
 add-p-2 c = omega (arith, c .before .before .next-gap .ensures .high)
@@ -46,13 +31,13 @@ loop-less c =
 
 loop-again : tie.Need-loop-again Inv-loop μ-loop
 loop-again c =
-    let start = c .before .before .before .before .before .before in
+    let start = c .before .before .before .before .before .before in let (long, (low, some)) = start .pre in
     let g = c .before .before .next-gap .ensures in
     let l = c .before .before .before .before .loop in (
       refl,
       omega (arith, g .passes),
       omega (arith, g .high),
-      best-turn (start .args .bits .now) (start .args .k) _ _ (l .p) _ _ (l .best) _ (start .pre .2) g (omega arith)
+      best-turn (start .args .bits .now) (start .args .k) _ _ (l .p) _ _ (l .best) _ some g (omega arith)
           (c .before .better-gap .ensures) (l .inv .3),
     )
 
@@ -72,17 +57,5 @@ pub find-in-chunk-spec : {M : Type 1} → statement M
 find-in-chunk-spec =
     tie.close
     (tie.spec
-    Inv-loop
-    μ-loop
-    mul-to
-    add-to
-    mul-p
-    add-p
-    loop-holds
-    next-gap-requires
-    better-gap-requires
-    add-p-2
-    loop-less
-    loop-again
-    returns
-    returns-2)
+    Inv-loop μ-loop (λ c. search needs) (λ c. search needs) (λ c. search needs) (λ c. search needs) loop-holds next-gap-requires
+    (λ c κs. search needs) add-p-2 loop-less loop-again returns returns-2)

@@ -23,9 +23,6 @@ loop-holds c = let a = c .before .args in (omega arith, ap (findFrom (a .bits .n
 find-in-chunk-requires : tie.Need-find-in-chunk-requires Inv-loop μ-loop
 find-in-chunk-requires c κs = omega arith
 
-enum-known-g : tie.Need-enum-known-g Inv-loop μ-loop
-enum-known-g c = search needs
-
 returns : tie.Need-returns Inv-loop μ-loop
 returns c =
     let asked = c .before .before .before in
@@ -33,9 +30,6 @@ returns c =
     let l = asked .before .before .loop in
     found-here (start .bits .now) (start .n) (l .k) (start .c) _ (omega arith) (sym (c .before .g .given .1) ∙ asked .find-in-chunk .ensures)
     ∙ l .inv .1
-
-enum-told : tie.Need-enum-told Inv-loop μ-loop
-enum-told c = search needs
 
 add-k : tie.Need-add-k Inv-loop μ-loop
 add-k c = omega arith
@@ -63,14 +57,5 @@ pub find-pages-spec : {M : Type 1} → statement M
 find-pages-spec =
     tie.close
     (tie.spec
-    Inv-loop
-    μ-loop
-    loop-holds
-    find-in-chunk-requires
-    enum-known-g
-    returns
-    enum-told
-    add-k
-    loop-less
-    loop-again
+    Inv-loop μ-loop loop-holds find-in-chunk-requires (λ c. search needs) returns (λ c. search needs) add-k loop-less loop-again
     returns-2)

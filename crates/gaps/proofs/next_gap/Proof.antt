@@ -7,15 +7,6 @@ use Rattle.gaps.proofs.Scan.{reached, next-gap}
 use Rattle.gaps.proofs.next_gap.Statement.{statement}
 use Rattle.gaps.proofs.next_gap.Tie as tie
 
-mul-to : tie.Need-mul-to
-mul-to c = search needs
-
-add-to : tie.Need-add-to
-add-to c = search needs
-
-next-bit-requires : tie.Need-next-bit-requires
-next-bit-requires c κs = search needs
-
 next-bit-requires-2 : tie.Need-next-bit-requires-2
 next-bit-requires-2 c κs =
     let a = reached (c .before .before .args .bits .now) 0 _ _ _ (lit< tt) (omega arith) (c .next-bit .ensures) in
@@ -32,5 +23,4 @@ returns : tie.Need-returns
 returns c = next-gap _ _ _ _ _ (omega arith) (c .before .next-bit .ensures) (c .next-bit2 .ensures)
 
 pub next-gap-spec : {M : Type 1} → statement M
-next-gap-spec =
-    tie.close (tie.spec mul-to add-to next-bit-requires next-bit-requires-2 sub-t6 returns)
+next-gap-spec = tie.close (tie.spec (λ c. search needs) (λ c. search needs) (λ c κs. search needs) next-bit-requires-2 sub-t6 returns)

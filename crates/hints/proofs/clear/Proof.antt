@@ -16,17 +16,8 @@ abbrev μ-loop : tie.MeasureT-loop
 loop-holds : tie.Need-loop-holds Inv-loop μ-loop
 loop-holds c = (omega arith, cleared-none _ (c .pre))
 
-mul-hints : tie.Need-mul-hints Inv-loop μ-loop
-mul-hints c = search needs
-
 slice-write-hints : tie.Need-slice-write-hints Inv-loop μ-loop
 slice-write-hints c = let n = c .before .loop .inv .1 in omega arith
-
-add-i : tie.Need-add-i Inv-loop μ-loop
-add-i c = search needs
-
-loop-less : tie.Need-loop-less Inv-loop μ-loop
-loop-less c = search needs
 
 loop-again : tie.Need-loop-again Inv-loop μ-loop
 loop-again c = (omega arith, cleared-on (c .before .loop .inv .1) (omega arith))
@@ -41,13 +32,5 @@ pub clear-spec : {M : Type 1} → statement M
 clear-spec =
     tie.close
     (tie.spec
-    Inv-loop
-    μ-loop
-    loop-holds
-    mul-hints
-    slice-write-hints
-    add-i
-    loop-less
-    loop-again
-    same-length
+    Inv-loop μ-loop loop-holds (λ c. search needs) slice-write-hints (λ c. search needs) (λ c. search needs) loop-again same-length
     returns)

@@ -7,20 +7,11 @@ use native.Mathlib.Omega.{arith}
 use Rattle.hints.proofs.note_spot.Statement.{statement}
 use Rattle.hints.proofs.note_spot.Tie as tie
 
-enum-known-x : tie.Need-enum-known-x
-enum-known-x c = search needs
-
 returns : tie.Need-returns
 returns c = spot-as _ (c .before .x .given .1) refl
 
-enum-known-x-2 : tie.Need-enum-known-x-2
-enum-known-x-2 c = search needs
-
 returns-2 : tie.Need-returns-2
 returns-2 c = spot-as _ (c .before .x2 .given .1) refl
-
-enum-known-x-3 : tie.Need-enum-known-x-3
-enum-known-x-3 c = search needs
 
 add-least : tie.Need-add-least
 add-least c =
@@ -38,16 +29,10 @@ slice-read-least c =
     let r : (_ < 8192) × (_ < 30) = spot-near-as (c .before .before .x3 .given .1) (d .pre .1) in let b = r .1 in let n = d .pre .0 in
     omega arith
 
-least-requires : tie.Need-least-requires
-least-requires c κs = search needs
-
 note-requires : tie.Need-note-requires
 note-requires c κs =
     let d = c .before .before .before .before .before .before .before in
-    let r : (_ < 8192) × (_ < 30) = spot-near-as (c .before .before .before .before .x3 .given .1) (d .pre .1) in (d .pre .0, r .1, r .0)
-
-same-length : tie.Need-same-length
-same-length c = search needs
+    let r : (_ < 8192) × (_ < 30) = spot-near-as (c .before .before .before .before .x3 .given .1) (d .pre .1) in (d .pre .0, (r .1, r .0))
 
 returns-3 : tie.Need-returns-3
 returns-3 c =
@@ -58,15 +43,5 @@ pub note-spot-spec : {M : Type 1} → statement M
 note-spot-spec =
     tie.close
     (tie.spec
-    enum-known-x
-    returns
-    enum-known-x-2
-    returns-2
-    enum-known-x-3
-    add-least
-    mul-least
-    slice-read-least
-    least-requires
-    note-requires
-    same-length
-    returns-3)
+    (λ c. search needs) returns (λ c. search needs) returns-2 (λ c. search needs) add-least mul-least slice-read-least
+    (λ c κs. search needs) note-requires (λ c. search needs) returns-3)

@@ -21,33 +21,18 @@ give-back-requires c κs =
     let d = c .before .before .before .before .before .before .before in
     let e = d .before .before .before .before .before .before .before .before .before in (e .pre .0, (_, d .spot-hinted .ensures))
 
-same-length : tie.Need-same-length
-same-length c = search needs
-
-same-length-2 : tie.Need-same-length-2
-same-length-2 c = search needs
-
-same-length-3 : tie.Need-same-length-3
-same-length-3 c = search needs
-
-same-length-4 : tie.Need-same-length-4
-same-length-4 c = search needs
-
 returns : tie.Need-returns
-returns c = (
-  c .before .before .before .before .before .before .give-back .ensures ∙ gave-at _ _ _ (c .before .before .before .before .before .before .before .before .before .before .before .before .before .before .spot-hinted .ensures),
-  spot-noted _ _ (c .before .before .before .before .before .before .before .before .before .before .before .before .before .before .before .before .before .before .before .before .before .before .before .pre .0) _ (c .before .before .before .before .before .before .before .before .before .before .before .before .before .before .before .before .before .before .before .before .before .before .before .pre .1) _ _ (c .before .before .before .before .before .before .before .before .before .before .before .before .before .before .spot-hinted .ensures) _ (left-of (c .before .before .before .before .before .before .give-back .ensures)) _ (c .before .before .before .before .before .before .before .before .before .before .before .before .note-spot .ensures),
-)
+returns c =
+    let give-back = c .before .before .before .before .before .before in
+    let spot-hinted = give-back .before .before .before .before .before .before .before .before in
+    let start = spot-hinted .before .before .before .before .before .before .before .before .before in (
+      give-back .give-back .ensures ∙ gave-at _ _ _ (spot-hinted .spot-hinted .ensures),
+      spot-noted _ _ (start .pre .0) _ (start .pre .1) _ _ (spot-hinted .spot-hinted .ensures) _ (left-of (give-back .give-back .ensures)) _ (give-back .before .before .before .before .before .before .note-spot .ensures),
+    )
 
 pub release-hinted-spec : {M : Type 1} → statement M
 release-hinted-spec =
     tie.close
     (tie.spec
-    spot-hinted-requires
-    note-spot-requires
-    give-back-requires
-    same-length
-    same-length-2
-    same-length-3
-    same-length-4
-    returns)
+    spot-hinted-requires note-spot-requires give-back-requires (λ c. search needs) (λ c. search needs) (λ c. search needs)
+    (λ c. search needs) returns)

@@ -25,7 +25,7 @@ slice-read-k c =
 marked-page-requires : tie.Need-marked-page-requires
 marked-page-requires c κs =
     let d = c .before .before .before .before .before in let e = d .before in let f = e .before .before .before .before .before in
-    let s = admitted _ _ (f .pre .0) .shape in (f .pre .1, s .few, class-low (e .if1 .taken) (d .class-of .ensures))
+    let s = admitted _ _ (f .pre .0) .shape in (f .pre .1, (s .few, class-low (e .if1 .taken) (d .class-of .ensures)))
 
 mul-if2 : tie.Need-mul-if2
 mul-if2 c =
@@ -36,19 +36,7 @@ take-slot-requires : tie.Need-take-slot-requires
 take-slot-requires c κs =
     let d = c .before .before .before .before .before in let e = d .before .before .before .before .before .before in let f = e .before in
     let g = f .before .before .before .before .before in let b = class-low (f .if1 .taken) (e .class-of .ensures) in
-    (g .pre .0, g .pre .1, b, g .pre .1 .cuts .counts _ b, d .marked-page .ensures, c .before .before .before .before .if2 .taken)
-
-same-length : tie.Need-same-length
-same-length c = search needs
-
-same-length-2 : tie.Need-same-length-2
-same-length-2 c = search needs
-
-same-length-3 : tie.Need-same-length-3
-same-length-3 c = search needs
-
-same-length-4 : tie.Need-same-length-4
-same-length-4 c = search needs
+    (g .pre .0, (g .pre .1, (b, (g .pre .1 .cuts .counts _ b, (d .marked-page .ensures, c .before .before .before .before .if2 .taken)))))
 
 returns : tie.Need-returns
 returns c =
@@ -62,32 +50,13 @@ plan-slot-requires : tie.Need-plan-slot-requires
 plan-slot-requires c κs =
     let d = c .before .before .before .before .before .before .before .before .before .before in let e = d .before in
     let f = e .before .before .before .before .before in let b = class-low (e .if1 .taken) (d .class-of .ensures) in
-    (f .pre .0, b, f .pre .1 .cuts .counts _ b, c .before .before .before .before .marked-page .ensures)
+    (f .pre .0, (b, (f .pre .1 .cuts .counts _ b, c .before .before .before .before .marked-page .ensures)))
 
 carry-out-requires : tie.Need-carry-out-requires
 carry-out-requires c κs =
     let d = c .before .before .before .before .before .before .before .before .before .before .before .before .before .before .before in
-    let e = d .before in let f = e .before .before .before .before .before in (
-      f .pre .0,
-      f .pre .1,
-      (
-        _,
-        plan-small _ _ _ _ _ (e .if1 .taken) (d .class-of .ensures)
-            (c .before .before .before .before .plan-slot .ensures),
-      ),
-    )
-
-same-length-5 : tie.Need-same-length-5
-same-length-5 c = search needs
-
-same-length-6 : tie.Need-same-length-6
-same-length-6 c = search needs
-
-same-length-7 : tie.Need-same-length-7
-same-length-7 c = search needs
-
-same-length-8 : tie.Need-same-length-8
-same-length-8 c = search needs
+    let e = d .before in let f = e .before .before .before .before .before in
+    (f .pre .0, (f .pre .1, (_, plan-small _ _ _ _ _ (e .if1 .taken) (d .class-of .ensures) (c .before .before .before .before .plan-slot .ensures))))
 
 returns-2 : tie.Need-returns-2
 returns-2 c =
@@ -100,24 +69,12 @@ returns-2 c =
 plan-large-requires : tie.Need-plan-large-requires
 plan-large-requires c κs =
     let d = c .before .before .before .before .before .before in let s = admitted _ _ (d .pre .0) .shape in
-    let n = c .before .if1 .left in (omega arith, omega arith, omega arith)
+    let n = c .before .if1 .left in (omega arith, (omega arith, omega arith))
 
 carry-out-requires-2 : tie.Need-carry-out-requires-2
 carry-out-requires-2 c κs =
     let d = c .before .before .before .before .before .before in let e = d .before .before .before .before .before in
-    (e .pre .0, e .pre .1, (_, plan-large _ _ _ _ (d .if1 .left) (c .before .before .before .before .plan-large .ensures)))
-
-same-length-9 : tie.Need-same-length-9
-same-length-9 c = search needs
-
-same-length-10 : tie.Need-same-length-10
-same-length-10 c = search needs
-
-same-length-11 : tie.Need-same-length-11
-same-length-11 c = search needs
-
-same-length-12 : tie.Need-same-length-12
-same-length-12 c = search needs
+    (e .pre .0, (e .pre .1, (_, plan-large _ _ _ _ (d .if1 .left) (c .before .before .before .before .plan-large .ensures))))
 
 returns-3 : tie.Need-returns-3
 returns-3 c =
@@ -129,29 +86,7 @@ pub reserve-hinted-spec : {M : Type 1} → statement M
 reserve-hinted-spec =
     tie.close
     (tie.spec
-    class-of-requires
-    add-k
-    mul-k
-    slice-read-k
-    marked-page-requires
-    mul-if2
-    take-slot-requires
-    same-length
-    same-length-2
-    same-length-3
-    same-length-4
-    returns
-    plan-slot-requires
-    carry-out-requires
-    same-length-5
-    same-length-6
-    same-length-7
-    same-length-8
-    returns-2
-    plan-large-requires
-    carry-out-requires-2
-    same-length-9
-    same-length-10
-    same-length-11
-    same-length-12
-    returns-3)
+    class-of-requires add-k mul-k slice-read-k marked-page-requires mul-if2 take-slot-requires (λ c. search needs) (λ c. search needs)
+    (λ c. search needs) (λ c. search needs) returns plan-slot-requires carry-out-requires (λ c. search needs) (λ c. search needs)
+    (λ c. search needs) (λ c. search needs) returns-2 plan-large-requires carry-out-requires-2 (λ c. search needs) (λ c. search needs)
+    (λ c. search needs) (λ c. search needs) returns-3)

@@ -8,23 +8,11 @@ use native.Mathlib.Omega.{arith}
 use Rattle.hints.proofs.spot_hinted.Statement.{statement}
 use Rattle.hints.proofs.spot_hinted.Tie as tie
 
-area-at-requires : tie.Need-area-at-requires
-area-at-requires c κs = search needs
-
-enum-told : tie.Need-enum-told
-enum-told c = search needs
-
 returns : tie.Need-returns
 returns c = leads-as _ _ _ (c .enum-told .given .1) (c .before .before .area-at .ensures)
 
-enum-known-g : tie.Need-enum-known-g
-enum-known-g c = search needs
-
 returns-2 : tie.Need-returns-2
 returns-2 c = leads-as _ _ _ (c .before .g .given .1) (c .before .before .before .area-at .ensures)
-
-enum-known-g-2 : tie.Need-enum-known-g-2
-enum-known-g-2 c = search needs
 
 add-bytes : tie.Need-add-bytes
 add-bytes c =
@@ -80,7 +68,7 @@ slot-spot-requires c κs =
     let d = c .before .before .before .before .before in let e = d .before .before .before .before .before in
     let l : (_ < _) × (_ < 30) × (_ ≤ _) × (_ ≡ _) = leads-as _ _ _ (c .before .before .before .g2 .given .1) (d .area-at .ensures) in
     let h = admitted _ _ (e .pre .0) .shape in let a = l .0 in
-    (omega arith, omega arith, l .1, e .pre .1 .sizes _ (l .1), e .pre .1 .counts _ (l .1))
+    (omega arith, (omega arith, (l .1, (e .pre .1 .sizes _ (l .1), e .pre .1 .counts _ (l .1)))))
 
 returns-3 : tie.Need-returns-3
 returns-3 c =
@@ -93,19 +81,5 @@ pub spot-hinted-spec : {M : Type 1} → statement M
 spot-hinted-spec =
     tie.close
     (tie.spec
-    area-at-requires
-    enum-told
-    returns
-    enum-known-g
-    returns-2
-    enum-known-g-2
-    add-bytes
-    mul-bytes
-    shared-slice-read-bytes
-    add-count
-    mul-count
-    shared-slice-read-count
-    mul-slot-spot
-    sub-slot-spot
-    slot-spot-requires
-    returns-3)
+    (λ c κs. search needs) (λ c. search needs) returns (λ c. search needs) returns-2 (λ c. search needs) add-bytes mul-bytes
+    shared-slice-read-bytes add-count mul-count shared-slice-read-count mul-slot-spot sub-slot-spot slot-spot-requires returns-3)

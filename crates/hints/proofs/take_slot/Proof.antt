@@ -10,58 +10,69 @@ use Rattle.hints.proofs.take_slot.Tie as tie
 
 lowest-free-requires : tie.Need-lowest-free-requires
 lowest-free-requires c κs =
-    let h = c .before .before .before .before .before .pre in let a = admitted _ _ (h .0) .shape in let g = h .5 in
-    (omega arith, omega arith, h .3, class-few (h .2) (h .3))
+    let (sound, (hinted, (class, (count, (first, inside))))) = c .before .before .before .before .before .pre in
+    let a = admitted _ _ sound .shape in let g = inside in
+    (omega arith, (omega arith, (count, class-few class count)))
 
 put-slot-requires : tie.Need-put-slot-requires
 put-slot-requires c κs =
-    let found = c .before .before in let h = found .before .before .before .before .before .before .pre in
-    let r = slot-room _ _ (h .0) _ (h .1) _ _ _ _ (h .2) (h .3) (h .4) (h .5) (found .lowest-free .ensures) in (omega arith, omega arith, omega arith)
+    let found = c .before .before in
+    let (sound, (hinted, (class, (count, (first, inside))))) = found .before .before .before .before .before .before .pre in
+    let r = slot-room _ _ sound _ hinted _ _ _ _ class count first inside (found .lowest-free .ensures) in
+    (omega arith, (omega arith, omega arith))
 
 mul-end : tie.Need-mul-end
 mul-end c =
-    let found = c .before .before .before .before .before .before .before in let h = found .before .before .before .before .before .before .pre in
-    let r = slot-room _ _ (h .0) _ (h .1) _ _ _ _ (h .2) (h .3) (h .4) (h .5) (found .lowest-free .ensures) in record { fits = omega arith }
+    let found = c .before .before .before .before .before .before .before in
+    let (sound, (hinted, (class, (count, (first, inside))))) = found .before .before .before .before .before .before .pre in
+    let r = slot-room _ _ sound _ hinted _ _ _ _ class count first inside (found .lowest-free .ensures) in record { fits = omega arith }
 
 add-end : tie.Need-add-end
 add-end c =
-    let found = c .before .before .before .before .before .before .before in let h = found .before .before .before .before .before .before .pre in
-    let r = slot-room _ _ (h .0) _ (h .1) _ _ _ _ (h .2) (h .3) (h .4) (h .5) (found .lowest-free .ensures) in record { fits = omega arith }
+    let found = c .before .before .before .before .before .before .before in
+    let (sound, (hinted, (class, (count, (first, inside))))) = found .before .before .before .before .before .before .pre in
+    let r = slot-room _ _ sound _ hinted _ _ _ _ class count first inside (found .lowest-free .ensures) in record { fits = omega arith }
 
 mul-next-bit : tie.Need-mul-next-bit
 mul-next-bit c =
-    let found = c .before .before .before .before .before .before .before .before in let h = found .before .before .before .before .before .before .pre in
-    let r = slot-room _ _ (h .0) _ (h .1) _ _ _ _ (h .2) (h .3) (h .4) (h .5) (found .lowest-free .ensures) in record { fits = omega arith }
+    let found = c .before .before .before .before .before .before .before .before in
+    let (sound, (hinted, (class, (count, (first, inside))))) = found .before .before .before .before .before .before .pre in
+    let r = slot-room _ _ sound _ hinted _ _ _ _ class count first inside (found .lowest-free .ensures) in record { fits = omega arith }
 
 add-next-bit : tie.Need-add-next-bit
 add-next-bit c =
-    let found = c .before .before .before .before .before .before .before .before in let h = found .before .before .before .before .before .before .pre in
-    let r = slot-room _ _ (h .0) _ (h .1) _ _ _ _ (h .2) (h .3) (h .4) (h .5) (found .lowest-free .ensures) in record { fits = omega arith }
+    let found = c .before .before .before .before .before .before .before .before in
+    let (sound, (hinted, (class, (count, (first, inside))))) = found .before .before .before .before .before .before .pre in
+    let r = slot-room _ _ sound _ hinted _ _ _ _ class count first inside (found .lowest-free .ensures) in record { fits = omega arith }
 
 next-bit-requires : tie.Need-next-bit-requires
 next-bit-requires c κs =
     let put = c .before .before .before .before .before in let found = put .before .before .before in
-    let h = found .before .before .before .before .before .before .pre in
-    let r = slot-room _ _ (h .0) _ (h .1) _ _ _ _ (h .2) (h .3) (h .4) (h .5) (found .lowest-free .ensures) in
-    let n = put-long _ _ _ _ (put .put-slot .ensures) in (omega arith, omega arith, omega arith)
+    let (sound, (hinted, (class, (count, (first, inside))))) = found .before .before .before .before .before .before .pre in
+    let r = slot-room _ _ sound _ hinted _ _ _ _ class count first inside (found .lowest-free .ensures) in
+    let n = put-long _ _ _ _ (put .put-slot .ensures) in (omega arith, (omega arith, omega arith))
 
 note-requires : tie.Need-note-requires
 note-requires c κs =
-    let found = c .before .before .before .before .before .before .before .before .before .before .before in let h = found .before .before .before .before .before .before .pre in
-    let r = slot-room _ _ (h .0) _ (h .1) _ _ _ _ (h .2) (h .3) (h .4) (h .5) (found .lowest-free .ensures) in (h .1 .cuts .long, h .2, omega arith)
+    let found = c .before .before .before .before .before .before .before .before .before .before .before in
+    let (sound, (hinted, (class, (count, (first, inside))))) = found .before .before .before .before .before .before .pre in
+    let r = slot-room _ _ sound _ hinted _ _ _ _ class count first inside (found .lowest-free .ensures) in
+    (hinted .cuts .long, (class, omega arith))
 
 slot-given-requires : tie.Need-slot-given-requires
 slot-given-requires c κs =
-    let found = c .before .before .before .before .before .before .before .before .before .before .before .before .before .before in let h = found .before .before .before .before .before .before .pre in
-    let r = slot-room _ _ (h .0) _ (h .1) _ _ _ _ (h .2) (h .3) (h .4) (h .5) (found .lowest-free .ensures) in ((omega arith, h .2, omega arith), h .1 .cuts .sizes _ (h .2))
+    let found = c .before .before .before .before .before .before .before .before .before .before .before .before .before .before in
+    let (sound, (hinted, (class, (count, (first, inside))))) = found .before .before .before .before .before .before .pre in
+    let r = slot-room _ _ sound _ hinted _ _ _ _ class count first inside (found .lowest-free .ensures) in
+    ((omega arith, class, omega arith), hinted .cuts .sizes _ class)
 
 returns : tie.Need-returns
 returns c =
     let marked = c .before .before .before in let next = marked .before .before .before in
     let put = next .before .before .before .before .before .before in let found = put .before .before .before in
-    let h = found .before .before .before .before .before .before .pre in (
-      slot-taken _ _ (h .0) _ (h .1) _ _ _ _ (h .2) (h .3) (h .4) (h .5) (found .lowest-free .ensures) (put .put-slot .ensures) _ (c .slot-given .ensures),
-      slot-noted _ _ (h .0) _ (h .1) _ _ _ _ (h .2) (h .3) (h .4) (h .5) (found .lowest-free .ensures) (put .put-slot .ensures) _ (next .next-bit .ensures) _
+    let (sound, (hinted, (class, (count, (first, inside))))) = found .before .before .before .before .before .before .pre in (
+      slot-taken _ _ sound _ hinted _ _ _ _ class count first inside (found .lowest-free .ensures) (put .put-slot .ensures) _ (c .slot-given .ensures),
+      slot-noted _ _ sound _ hinted _ _ _ _ class count first inside (found .lowest-free .ensures) (put .put-slot .ensures) _ (next .next-bit .ensures) _
           (marked .note .ensures),
     )
 

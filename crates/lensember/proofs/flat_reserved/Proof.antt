@@ -4,24 +4,14 @@ use borrow.Author.Needs.{needs}
 use Rattle.lensember.proofs.flat_reserved.Statement.{statement}
 use Rattle.lensember.proofs.flat_reserved.Tie as tie
 
-enum-known-k : tie.Need-enum-known-k
-enum-known-k c = search needs
-
 returns : tie.Need-returns
 returns c = flat-as (c .before .before .before .args .r) (c .before .k .given .1)
 
-enum-known-k-2 : tie.Need-enum-known-k-2
-enum-known-k-2 c = search needs
-
 returns-2 : tie.Need-returns-2
 returns-2 c = flat-as (c .before .before .before .args .r) (c .before .k2 .given .1)
-
-enum-told : tie.Need-enum-told
-enum-told c = search needs
 
 returns-3 : tie.Need-returns-3
 returns-3 c = flat-as (c .before .before .args .r) (c .enum-told .given .1)
 
 pub flat-reserved-spec : {M : Type 1} → statement M
-flat-reserved-spec =
-    tie.close (tie.spec enum-known-k returns enum-known-k-2 returns-2 enum-told returns-3)
+flat-reserved-spec = tie.close (tie.spec (λ c. search needs) returns (λ c. search needs) returns-2 (λ c. search needs) returns-3)

@@ -5,17 +5,11 @@ use Rattle.next.specs.Next.{answerOf}
 use Rattle.next.proofs.answer_of.Statement.{statement}
 use Rattle.next.proofs.answer_of.Tie as tie
 
-enum-known-x : tie.Need-enum-known-x
-enum-known-x c = search needs
-
 returns : tie.Need-returns
 returns c = ap answerOf (sym (c .before .x .given .1))
-
-enum-told : tie.Need-enum-told
-enum-told c = search needs
 
 returns-2 : tie.Need-returns-2
 returns-2 c = ap answerOf (sym (c .enum-told .given .1))
 
 pub answer-of-spec : {M : Type 1} → statement M
-answer-of-spec = tie.close (tie.spec enum-known-x returns enum-told returns-2)
+answer-of-spec = tie.close (tie.spec (λ c. search needs) returns (λ c. search needs) returns-2)

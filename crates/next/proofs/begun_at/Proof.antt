@@ -8,29 +8,15 @@ use borrow.Author.Needs.{needs}
 use Rattle.next.proofs.begun_at.Statement.{statement}
 use Rattle.next.proofs.begun_at.Tie as tie
 
-kind-at-requires : tie.Need-kind-at-requires
-kind-at-requires c κs = search needs
-
-enum-known-k : tie.Need-enum-known-k
-enum-known-k c = search needs
-
 add-t12 : tie.Need-add-t12
-add-t12 c = let l = large-at-low _ _ _ (sym (c .before .before .before .kind-at .ensures) ∙ c .before .k .given .1) in record { fits = omega arith }
+add-t12 c =
+    let l = large-at-low _ _ _ (sym (c .before .before .before .kind-at .ensures) ∙ c .before .k .given .1) in record { fits = omega arith }
 
 returns : tie.Need-returns
 returns c = begun-large _ _ (sym (c .before .k .given .1) ∙ c .before .before .before .kind-at .ensures) (omega arith)
 
-enum-known-b : tie.Need-enum-known-b
-enum-known-b c = search needs
-
 class-row-requires : tie.Need-class-row-requires
 class-row-requires c κs = class-at-low _ _ _ (sym (c .before .before .before .kind-at .ensures) ∙ c .before .b .given .1)
-
-wide16-requires : tie.Need-wide16-requires
-wide16-requires c κs = search needs
-
-wide16-requires-2 : tie.Need-wide16-requires-2
-wide16-requires-2 c κs = search needs
 
 returns-2 : tie.Need-returns-2
 returns-2 c =
@@ -45,13 +31,5 @@ pub begun-at-spec : {M : Type 1} → statement M
 begun-at-spec =
     tie.close
     (tie.spec
-    kind-at-requires
-    enum-known-k
-    add-t12
-    returns
-    enum-known-b
-    class-row-requires
-    wide16-requires
-    wide16-requires-2
-    returns-2
-    returns-3)
+    (λ c κs. search needs) (λ c. search needs) add-t12 returns (λ c. search needs) class-row-requires (λ c κs. search needs)
+    (λ c κs. search needs) returns-2 returns-3)

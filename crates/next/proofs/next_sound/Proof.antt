@@ -54,10 +54,14 @@ loop-holds : tie.Need-loop-holds Inv-loop2 μ-loop2 Inv-loop μ-loop Inv-search 
 loop-holds c = let i = c .before .search .inv in (i .1, i .2, i .3)
 
 mul-g : tie.Need-mul-g Inv-loop2 μ-loop2 Inv-loop μ-loop Inv-search μ-search
-mul-g c = let s = admitted _ _ (c .before .before .before .before .before .before .before .before .before .before .pre) .shape in record { fits = omega arith }
+mul-g c =
+    let s = admitted _ _ (c .before .before .before .before .before .before .before .before .before .before .pre) .shape in
+    record { fits = omega arith }
 
 add-g : tie.Need-add-g Inv-loop2 μ-loop2 Inv-loop μ-loop Inv-search μ-search
-add-g c = let s = admitted _ _ (c .before .before .before .before .before .before .before .before .before .before .pre) .shape in record { fits = omega arith }
+add-g c =
+    let s = admitted _ _ (c .before .before .before .before .before .before .before .before .before .before .pre) .shape in
+    record { fits = omega arith }
 
 begun-at-requires :
     tie.Need-begun-at-requires Inv-loop2 μ-loop2 Inv-loop μ-loop Inv-search μ-search
@@ -69,9 +73,6 @@ mul-wide64 : tie.Need-mul-wide64 Inv-loop2 μ-loop2 Inv-loop μ-loop Inv-search 
 mul-wide64 c =
     let d = c .before .before .before .before .before .before .before .before .before .before .before .before .before in
     let s = admitted _ _ (d .pre) .shape in record { fits = omega arith }
-
-wide64-requires : tie.Need-wide64-requires Inv-loop2 μ-loop2 Inv-loop μ-loop Inv-search μ-search
-wide64-requires c κs = search needs
 
 mul-wide64-2 : tie.Need-mul-wide64-2 Inv-loop2 μ-loop2 Inv-loop μ-loop Inv-search μ-search
 mul-wide64-2 c =
@@ -120,7 +121,7 @@ next-bit-requires c κs =
     let e = c .before .before .before .before .before .before .before .before .before .before .before .before .before .before .before in
     let s = admitted _ _ (e .pre) .shape in
     let d = few-slots _ _ (c .before .before .before .before .begun-at .ensures) (c .loop2-test .taken) in let d₀ = d .0 in
-    let d₁ = d .1 in (omega arith, omega arith, omega arith)
+    let d₁ = d .1 in (omega arith, (omega arith, omega arith))
 
 mul-slot : tie.Need-mul-slot Inv-loop2 μ-loop2 Inv-loop μ-loop Inv-search μ-search
 mul-slot c =
@@ -189,7 +190,7 @@ next-bit-requires-2 :
     tie.Need-next-bit-requires-2 Inv-loop2 μ-loop2 Inv-loop μ-loop Inv-search μ-search
 next-bit-requires-2 c κs =
     let d = c .before .before .before .before .before .before .before .before .before .before .before .before .before .before .before in
-    let s = admitted _ _ (d .pre) .shape in (omega arith, omega arith, omega arith)
+    let s = admitted _ _ (d .pre) .shape in (omega arith, (omega arith, omega arith))
 
 mul-page-2 : tie.Need-mul-page-2 Inv-loop2 μ-loop2 Inv-loop μ-loop Inv-search μ-search
 mul-page-2 c =
@@ -222,7 +223,8 @@ add-chunk c =
     record { fits = omega arith }
 
 search-less : tie.Need-search-less Inv-loop2 μ-loop2 Inv-loop μ-loop Inv-search μ-search
-search-less c = let s = admitted _ _ (c .before .before .before .before .before .before .before .before .before .before .pre) .shape in omega arith
+search-less c =
+    let s = admitted _ _ (c .before .before .before .before .before .before .before .before .before .before .pre) .shape in omega arith
 
 search-again : tie.Need-search-again Inv-loop2 μ-loop2 Inv-loop μ-loop Inv-search μ-search
 search-again c =
@@ -251,52 +253,8 @@ pub next-sound-spec : {M : Type 1} → statement M
 next-sound-spec =
     tie.close
     (tie.spec
-    Inv-loop2
-    μ-loop2
-    Inv-loop
-    μ-loop
-    Inv-search
-    μ-search
-    mul-if1
-    returns
-    start-of-requires
-    mul-page
-    sub-page
-    search-holds
-    loop-holds
-    mul-g
-    add-g
-    begun-at-requires
-    mul-wide64
-    wide64-requires
-    mul-wide64-2
-    wide64-requires-2
-    loop2-holds
-    mul-next-bit
-    add-next-bit
-    mul-next-bit-2
-    add-next-bit-2
-    next-bit-requires
-    mul-slot
-    sub-slot
-    mul-wide64-3
-    mul-wide64-4
-    add-wide64
-    wide64-requires-3
-    wide64-requires-4
-    loop2-less
-    loop2-again
-    add-next-bit-3
-    mul-next-bit-3
-    add-next-bit-4
-    next-bit-requires-2
-    mul-page-2
-    sub-page-2
-    loop-less
-    loop-again
-    add-chunk
-    search-less
-    search-again
-    returns-2
-    returns-3
-    returns-4)
+    Inv-loop2 μ-loop2 Inv-loop μ-loop Inv-search μ-search mul-if1 returns start-of-requires mul-page sub-page search-holds loop-holds
+    mul-g add-g begun-at-requires mul-wide64 (λ c κs. search needs) mul-wide64-2 wide64-requires-2 loop2-holds mul-next-bit add-next-bit
+    mul-next-bit-2 add-next-bit-2 next-bit-requires mul-slot sub-slot mul-wide64-3 mul-wide64-4 add-wide64 wide64-requires-3
+    wide64-requires-4 loop2-less loop2-again add-next-bit-3 mul-next-bit-3 add-next-bit-4 next-bit-requires-2 mul-page-2 sub-page-2
+    loop-less loop-again add-chunk search-less search-again returns-2 returns-3 returns-4)

@@ -7,12 +7,6 @@ use borrow.Author.Needs.{needs}
 use Rattle.next.proofs.start_of.Statement.{statement}
 use Rattle.next.proofs.start_of.Tie as tie
 
-home-at-requires : tie.Need-home-at-requires
-home-at-requires c κs = search needs
-
-enum-known-kind : tie.Need-enum-known-kind
-enum-known-kind c = search needs
-
 mul-slot-from : tie.Need-mul-slot-from
 mul-slot-from c =
     let d = c .before .before .before in let e = d .before .before .before .before .pre in
@@ -33,12 +27,6 @@ returns c =
     let d = c .before .before .before .before in let e = d .before .before .before .before .pre in
     start-run _ _ (e .0) _ (e .1) (lies-as (c .before .before .kind .given .1) (d .home-at .ensures)) .3 _ (c .slot-from .ensures)
 
-enum-told : tie.Need-enum-told
-enum-told c = search needs
-
-add-t14 : tie.Need-add-t14
-add-t14 c = search needs
-
 returns-2 : tie.Need-returns-2
 returns-2 c =
     let d = c .before .before in let e = d .before .before .before .before .pre in
@@ -50,9 +38,6 @@ returns-3 c =
     let o = others-alone (d .home-at .result .kind) (c .before .match .keys3) (d .home-at .ensures) in
     start-here _ _ (e .0) _ (e .1) (o .alone) (o .off) (c .if1 .taken)
 
-add-t15 : tie.Need-add-t15
-add-t15 c = search needs
-
 returns-4 : tie.Need-returns-4
 returns-4 c =
     let d = c .before .before in let e = d .before .before .before .before .pre in
@@ -63,15 +48,5 @@ pub start-of-spec : {M : Type 1} → statement M
 start-of-spec =
     tie.close
     (tie.spec
-    home-at-requires
-    enum-known-kind
-    mul-slot-from
-    sub-slot-from
-    slot-from-requires
-    returns
-    enum-told
-    add-t14
-    returns-2
-    returns-3
-    add-t15
-    returns-4)
+    (λ c κs. search needs) (λ c. search needs) mul-slot-from sub-slot-from slot-from-requires returns (λ c. search needs)
+    (λ c. search needs) returns-2 returns-3 (λ c. search needs) returns-4)

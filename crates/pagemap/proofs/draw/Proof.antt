@@ -8,9 +8,6 @@ use borrow.Author.Needs.{needs}
 use Rattle.pagemap.proofs.draw.Statement.{statement}
 use Rattle.pagemap.proofs.draw.Tie as tie
 
-admit-requires : tie.Need-admit-requires
-admit-requires c κs = search needs
-
 returns : tie.Need-returns
 returns c = (draw-refused _ _ (pool _ _ _) _ (c .before .admit .ensures) (c .if1 .taken), omega arith)
 
@@ -33,9 +30,6 @@ draw-sound-requires c κs =
     let r = c .before .before .room-for .ensures in
     (sym (c .before .before .before .before .admit .ensures) ∙ c .before .before .before .if1 .left, omega (arith, r, c .before .if2 .left))
 
-same-length : tie.Need-same-length
-same-length c = search needs
-
 returns-3 : tie.Need-returns-3
 returns-3 c =
     let w = c .before .before .draw-sound .ensures in
@@ -50,10 +44,4 @@ pub draw-spec : {M : Type 1} → statement M
 draw-spec =
     tie.close
     (tie.spec
-    admit-requires
-    returns
-    room-for-requires
-    returns-2
-    draw-sound-requires
-    same-length
-    returns-3)
+    (λ c κs. search needs) returns room-for-requires returns-2 draw-sound-requires (λ c. search needs) returns-3)

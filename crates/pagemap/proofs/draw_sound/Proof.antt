@@ -17,9 +17,6 @@ put-pages-requires c κs =
     let e = c .before .before .before .before .before .before .before .before .before .pre in
     let h = c .before .before .before .put-head .ensures in (e .0, omega (arith, room-whole _ _ (e .1), h .1, appends-length (h .0)))
 
-totals-sound-requires : tie.Need-totals-sound-requires
-totals-sound-requires c κs = search needs
-
 put-foot-requires : tie.Need-put-foot-requires
 put-foot-requires c κs =
     let e = c .before .before .before .before .before .before .before .before .before .before .before .before .before .before .pre in
@@ -27,12 +24,6 @@ put-foot-requires c κs =
     let h = c .before .before .before .before .before .before .before .before .put-head .ensures in
     let w = c .before .before .before .before .put-pages .ensures in
     (omega (arith, room-whole _ _ (e .1), h .1, appends-length (h .0), w .1, appends-length (w .0)), s .few)
-
-wide64-requires : tie.Need-wide64-requires
-wide64-requires c κs = search needs
-
-same-length : tie.Need-same-length
-same-length c = search needs
 
 returns : tie.Need-returns
 returns c =
@@ -51,10 +42,4 @@ pub draw-sound-spec : {M : Type 1} → statement M
 draw-sound-spec =
     tie.close
     (tie.spec
-    put-head-requires
-    put-pages-requires
-    totals-sound-requires
-    put-foot-requires
-    wide64-requires
-    same-length
-    returns)
+    put-head-requires put-pages-requires (λ c κs. search needs) put-foot-requires (λ c κs. search needs) (λ c. search needs) returns)

@@ -4,14 +4,8 @@ use borrow.Author.Needs.{needs}
 use Rattle.pagemap.proofs.draw_svg.Statement.{statement}
 use Rattle.pagemap.proofs.draw_svg.Tie as tie
 
-draw-requires : tie.Need-draw-requires
-draw-requires c κs = search needs
-
-same-length : tie.Need-same-length
-same-length c = search needs
-
 returns : tie.Need-returns
 returns c = let w = c .before .before .draw .ensures in (w .0, counted _ _ (w .1))
 
 pub draw-svg-spec : {M : Type 1} → statement M
-draw-svg-spec = tie.close (tie.spec draw-requires same-length returns)
+draw-svg-spec = tie.close (tie.spec (λ c κs. search needs) (λ c. search needs) returns)

@@ -7,23 +7,8 @@ use borrow.Author.Needs.{needs}
 use Rattle.pagemap.proofs.put_head.Statement.{statement}
 use Rattle.pagemap.proofs.put_head.Tie as tie
 
-mul-h : tie.Need-mul-h
-mul-h c = search needs
-
-add-h : tie.Need-add-h
-add-h c = search needs
-
-slice-aggregate-put-filled : tie.Need-slice-aggregate-put-filled
-slice-aggregate-put-filled c = search needs
-
-slice-aggregate-put-filled-2 : tie.Need-slice-aggregate-put-filled-2
-slice-aggregate-put-filled-2 c = search needs
-
 put-filled-requires : tie.Need-put-filled-requires
 put-filled-requires c κs = omega (arith, ap headRoom (c .before .before .before .if1 .taken))
-
-same-length : tie.Need-same-length
-same-length c = search needs
 
 returns : tie.Need-returns
 unfolding headOf
@@ -39,11 +24,5 @@ pub put-head-spec : {M : Type 1} → statement M
 put-head-spec =
     tie.close
     (tie.spec
-    mul-h
-    add-h
-    slice-aggregate-put-filled
-    slice-aggregate-put-filled-2
-    put-filled-requires
-    same-length
-    returns
+    (λ c. search needs) (λ c. search needs) (λ c. search needs) (λ c. search needs) put-filled-requires (λ c. search needs) returns
     returns-2)

@@ -25,29 +25,19 @@ loop-holds c = (omega arith, refl, drawing-first)
 page-cell-requires : tie.Need-page-cell-requires Inv-loop μ-loop
 page-cell-requires c κs =
     let l = c .before .loop .inv in
-    (c .before .before .before .before .before .before .pre .0, omega arith, l .2 .level)
-
-wide64-requires : tie.Need-wide64-requires Inv-loop μ-loop
-wide64-requires c κs = search needs
+    (c .before .before .before .before .before .before .pre .0, (omega arith, l .2 .level))
 
 put-page-requires : tie.Need-put-page-requires Inv-loop μ-loop
 put-page-requires c κs =
+    let start = c .before .before .before .before .before .before .before .before .before in
     let l = c .before .before .before .before .loop .inv in
-    let s = admitted _ _ (c .before .before .before .before .before .before .before .before .before .pre .0) .shape in
-    let p = c .before .before .page-cell .ensures in (
-      drawing-room (l .2) (omega arith) (c .before .before .before .before .before .before .before .before .before .pre .1),
-      omega arith,
-      p .1,
-      p .2,
-    )
+    let s = admitted _ _ (start .pre .0) .shape in
+    let p = c .before .before .page-cell .ensures in (drawing-room (l .2) (omega arith) (start .pre .1), (omega arith, (p .1, p .2)))
 
 add-g : tie.Need-add-g Inv-loop μ-loop
 add-g c =
     let s = admitted _ _ (c .before .before .before .before .before .before .before .before .before .before .before .before .pre .0) .shape in
     record { fits = omega arith }
-
-loop-less : tie.Need-loop-less Inv-loop μ-loop
-loop-less c = search needs
 
 loop-again : tie.Need-loop-again Inv-loop μ-loop
 loop-again c =
@@ -69,15 +59,5 @@ pub put-pages-spec : {M : Type 1} → statement M
 put-pages-spec =
     tie.close
     (tie.spec
-    Inv-loop
-    μ-loop
-    mul-n
-    loop-holds
-    page-cell-requires
-    wide64-requires
-    put-page-requires
-    add-g
-    loop-less
-    loop-again
-    same-length
-    returns)
+    Inv-loop μ-loop mul-n loop-holds page-cell-requires (λ c κs. search needs) put-page-requires add-g (λ c. search needs) loop-again
+    same-length returns)

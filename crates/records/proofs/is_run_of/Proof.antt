@@ -10,20 +10,18 @@ use Rattle.records.proofs.is_run_of.Statement.{statement}
 use Rattle.records.proofs.is_run_of.Tie as tie
 
 mul-result : tie.Need-mul-result
-mul-result c = let s = admitted _ _ (c .before .before .before .pre .0) .shape in record { fits = omega arith }
+mul-result c =
+    let (sound, (inside, class)) = c .before .before .before .pre in let s = admitted _ _ sound .shape in record { fits = omega arith }
 
 shared-slice-read-result : tie.Need-shared-slice-read-result
-shared-slice-read-result c = let s = admitted _ _ (c .before .before .before .before .pre .0) .shape in omega arith
-
-class-word-requires : tie.Need-class-word-requires
-class-word-requires c κs = search needs
+shared-slice-read-result c =
+    let (sound, (inside, class)) = c .before .before .before .before .pre in let s = admitted _ _ sound .shape in omega arith
 
 returns : tie.Need-returns
 returns c =
-    let e = c .before .before .before .before .before in
+    let e = c .before .before .before .before .before in let (sound, (inside, class)) = e .pre in
     ap (eqb (getD (e .args .words .now) (e .args .g) 0)) (c .class-word .ensures)
-    ∙ word-run _ _ (admitted _ _ (e .pre .0) .whole) _ (e .pre .2) _ (e .pre .1)
+    ∙ word-run _ _ (admitted _ _ sound .whole) _ class _ inside
 
 pub is-run-of-spec : {M : Type 1} → statement M
-is-run-of-spec =
-    tie.close (tie.spec mul-result shared-slice-read-result class-word-requires returns)
+is-run-of-spec = tie.close (tie.spec mul-result shared-slice-read-result (λ c κs. search needs) returns)

@@ -11,20 +11,11 @@ returns c = not-shaped _ _ _ _ (λ l. omega arith)
 returns-2 : tie.Need-returns-2
 returns-2 c = not-shaped _ _ _ _ (λ l. omega arith)
 
-mul-if3 : tie.Need-mul-if3
-mul-if3 c = search needs
-
 returns-3 : tie.Need-returns-3
 returns-3 c = not-shaped _ _ _ _ (λ l. omega arith)
 
-mul-if4 : tie.Need-mul-if4
-mul-if4 c = search needs
-
 returns-4 : tie.Need-returns-4
 returns-4 c = not-shaped _ _ _ _ (λ l. omega arith)
-
-mul-if5 : tie.Need-mul-if5
-mul-if5 c = search needs
 
 returns-5 : tie.Need-returns-5
 returns-5 c = not-shaped _ _ _ _ (λ l. omega arith)
@@ -37,4 +28,5 @@ returns-6 c =
 pub is-shaped-spec : {M : Type 1} → statement M
 is-shaped-spec =
     tie.close
-    (tie.spec returns returns-2 mul-if3 returns-3 mul-if4 returns-4 mul-if5 returns-5 returns-6)
+    (tie.spec
+    returns returns-2 (λ c. search needs) returns-3 (λ c. search needs) returns-4 (λ c. search needs) returns-5 returns-6)

@@ -31,9 +31,6 @@ returns-3 c =
     let e = c .before .before .before .before .before .before .before .before .pre in
     sym (page-free _ _ (admitted _ _ (e .0) .whole) _ (e .1) (sym (c .before .is-set .ensures) ∙ c .if3 .left))
 
-cast-t13 : tie.Need-cast-t13
-cast-t13 c = search needs
-
 returns-4 : tie.Need-returns-4
 returns-4 c =
     let e = c .before .before .before .before .before .before .before .pre in
@@ -44,9 +41,6 @@ returns-5 c =
     let e = c .before .before .before .before .before .before .before .before .pre in
     sym (page-edge _ _ (admitted _ _ (e .0) .whole) _ (e .1) (c .if5 .taken))
 
-cast-t7 : tie.Need-cast-t7
-cast-t7 c = search needs
-
 returns-6 : tie.Need-returns-6
 returns-6 c =
     let e = c .before .before .before .before .before .before .before .before .pre in
@@ -56,14 +50,5 @@ pub kind-at-spec : {M : Type 1} → statement M
 kind-at-spec =
     tie.close
     (tie.spec
-    mul-w
-    shared-slice-read-w
-    returns
-    is-set-requires
-    returns-2
-    returns-3
-    cast-t13
-    returns-4
-    returns-5
-    cast-t7
+    mul-w shared-slice-read-w returns is-set-requires returns-2 returns-3 (λ c. search needs) returns-4 returns-5 (λ c. search needs)
     returns-6)

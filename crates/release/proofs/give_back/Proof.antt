@@ -15,7 +15,7 @@ free-large-requires c κs =
     let matched = c .before .before .before .before in let start = matched .before .before .before .before .before in
     let a = admitted _ _ (start .pre .0) in let h = a .shape in
     let r : RunAt _ _ _ _ _ = found _ _ _ (start .pre .1 .1) (matched .x2 .given .1) in
-    let e = large-ends _ _ (a .whole) r in (e .1, omega arith, omega arith, omega arith, large-zeros _ _ (a .whole) r)
+    let e = large-ends _ _ (a .whole) r in (e .1, (omega arith, (omega arith, (omega arith, large-zeros _ _ (a .whole) r))))
 
 returns-2 : tie.Need-returns-2
 returns-2 c =
@@ -27,7 +27,7 @@ put-slot-requires c κs =
     let matched = c .before .before .before .before in let start = matched .before .before .before .before .before in
     let h = admitted _ _ (start .pre .0) .shape in
     let r : SlotAt _ _ _ _ _ _ = found _ _ _ (start .pre .1 .1) (matched .x3 .given .1) in let i = r .inside in
-    (omega arith, few-slots r, omega arith)
+    (omega arith, (few-slots r, omega arith))
 
 returns-3 : tie.Need-returns-3
 returns-3 c =

@@ -37,17 +37,11 @@ sub-slot-spot c =
 
 slot-spot-requires : tie.Need-slot-spot-requires
 slot-spot-requires c κs =
-    let d = c .before .before .before .before .before .before in let e = d .before .before .before .before in
-    let l : (_ < _) × (_ < 30) × (_ ≤ _) × (_ ≡ _) = leads-as _ _ _ (c .before .before .before .before .g2 .given .1)
+    let class-row = c .before .before in let d = class-row .before .before .before .before in let e = d .before .before .before .before in
+    let l : (_ < _) × (_ < 30) × (_ ≤ _) × (_ ≡ _) = leads-as _ _ _ (class-row .before .before .g2 .given .1)
     (d .area-at .ensures) in
-    let h = admitted _ _ (e .pre) .shape in let a = l .0 in (
-      omega arith,
-      omega arith,
-      l .1,
-      size-read _ (c .before .before .class-row .ensures) (c .before .wide16 .ensures),
-      slots-read _
-          (c .before .before .class-row .ensures) (c .wide162 .ensures),
-    )
+    let h = admitted _ _ (e .pre) .shape in let a = l .0 in
+    (omega arith, (omega arith, (l .1, (size-read _ (class-row .class-row .ensures) (c .before .wide16 .ensures), slots-read _ (class-row .class-row .ensures) (c .wide162 .ensures)))))
 
 returns-3 : tie.Need-returns-3
 returns-3 c =

@@ -6,17 +6,8 @@ use native.Mathlib.Omega.{arith}
 use Rattle.reserve.proofs.answer_of.Statement.{statement}
 use Rattle.reserve.proofs.answer_of.Tie as tie
 
-enum-known-x : tie.Need-enum-known-x
-enum-known-x c = search needs
-
-refused-requires : tie.Need-refused-requires
-refused-requires c κs = search needs
-
 returns : tie.Need-returns
 returns c = answer-as (c .before .before .x .given .1) (c .refused .ensures)
-
-enum-known-x-2 : tie.Need-enum-known-x-2
-enum-known-x-2 c = search needs
 
 slot-given-requires : tie.Need-slot-given-requires
 slot-given-requires c κs =
@@ -25,31 +16,19 @@ slot-given-requires c κs =
 returns-2 : tie.Need-returns-2
 returns-2 c = answer-as (c .before .before .x2 .given .1) (c .slot-given .ensures)
 
-enum-known-x-3 : tie.Need-enum-known-x-3
-enum-known-x-3 c = search needs
-
 slot-given-requires-2 : tie.Need-slot-given-requires-2
 slot-given-requires-2 c κs =
-    let r : (_ < 8192) × (_ < 30) = low-as (c .before .x3 .given .1) (c .before .before .before .pre .0) in
-    ((r .0, r .1, omega arith), size-of _ (c .before .x3 .given .1) (c .before .before .before .pre .1))
+    let start = c .before .before .before in let r : (_ < 8192) × (_ < 30) = low-as (c .before .x3 .given .1) (start .pre .0) in
+    ((r .0, r .1, omega arith), size-of _ (c .before .x3 .given .1) (start .pre .1))
 
 returns-3 : tie.Need-returns-3
 returns-3 c = answer-as (c .before .before .x3 .given .1) (c .slot-given2 .ensures)
-
-enum-known-x-4 : tie.Need-enum-known-x-4
-enum-known-x-4 c = search needs
 
 add-wide64 : tie.Need-add-wide64
 add-wide64 c =
     let matched = c .before in
     let r : (_ < 8192) × (_ < 511) = low-as (matched .x4 .given .1) (matched .before .before .pre .0) in let a = r .0 in let b = r .1 in
     record { fits = omega arith }
-
-wide64-requires : tie.Need-wide64-requires
-wide64-requires c κs = search needs
-
-wide64-requires-2 : tie.Need-wide64-requires-2
-wide64-requires-2 c κs = search needs
 
 mul-t14 : tie.Need-mul-t14
 mul-t14 c =
@@ -70,19 +49,6 @@ pub answer-of-spec : {M : Type 1} → statement M
 answer-of-spec =
     tie.close
     (tie.spec
-    enum-known-x
-    refused-requires
-    returns
-    enum-known-x-2
-    slot-given-requires
-    returns-2
-    enum-known-x-3
-    slot-given-requires-2
-    returns-3
-    enum-known-x-4
-    add-wide64
-    wide64-requires
-    wide64-requires-2
-    mul-t14
-    mul-t15
+    (λ c. search needs) (λ c κs. search needs) returns (λ c. search needs) slot-given-requires returns-2 (λ c. search needs)
+    slot-given-requires-2 returns-3 (λ c. search needs) add-wide64 (λ c κs. search needs) (λ c κs. search needs) mul-t14 mul-t15
     returns-4)

@@ -7,33 +7,18 @@ use native.Mathlib.Omega.{arith}
 use Rattle.reserve.proofs.plan_for.Statement.{statement}
 use Rattle.reserve.proofs.plan_for.Tie as tie
 
-class-of-requires : tie.Need-class-of-requires
-class-of-requires c κs = search needs
-
 class-row-requires : tie.Need-class-row-requires
 class-row-requires c κs = class-low (c .before .if1 .taken) (c .class-of .ensures)
 
-wide16-requires : tie.Need-wide16-requires
-wide16-requires c κs = search needs
-
 slot-page-requires : tie.Need-slot-page-requires
 slot-page-requires c κs =
-    let d = c .before .before .before .before .before .before .before in (
-      d .pre,
-      class-low (c .before .before .before .if1 .taken) (c .before .before .class-of .ensures),
-      slots-read _
-          (c .before .class-row .ensures) (c .wide16 .ensures),
-    )
+    let d = c .before .before .before .before .before .before .before in
+    (d .pre, (class-low (c .before .before .before .if1 .taken) (c .before .before .class-of .ensures), slots-read _ (c .before .class-row .ensures) (c .wide16 .ensures)))
 
 plan-slot-requires : tie.Need-plan-slot-requires
 plan-slot-requires c κs =
-    let d = c .before .before .before .before .before .before .before .before in (
-      d .pre,
-      class-low (c .before .before .before .before .if1 .taken) (c .before .before .before .class-of .ensures),
-      slots-read _
-          (c .before .before .class-row .ensures) (c .before .wide16 .ensures),
-      c .slot-page .ensures,
-    )
+    let d = c .before .before .before .before .before .before .before .before in
+    (d .pre, (class-low (c .before .before .before .before .if1 .taken) (c .before .before .before .class-of .ensures), (slots-read _ (c .before .before .class-row .ensures) (c .before .wide16 .ensures), c .slot-page .ensures)))
 
 returns : tie.Need-returns
 returns c =
@@ -41,7 +26,8 @@ returns c =
     plan-small _ _ _ _ _ (d .if1 .taken) (c .before .before .before .before .class-of .ensures) (c .plan-slot .ensures)
 
 plan-large-requires : tie.Need-plan-large-requires
-plan-large-requires c κs = let a = admitted _ _ (c .before .before .before .before .pre) in let h = a .shape in (omega arith, omega arith, omega arith)
+plan-large-requires c κs =
+    let a = admitted _ _ (c .before .before .before .before .pre) in let h = a .shape in (omega arith, (omega arith, omega arith))
 
 returns-2 : tie.Need-returns-2
 returns-2 c = plan-large _ _ _ _ (c .before .if1 .left) (c .plan-large .ensures)
@@ -50,11 +36,5 @@ pub plan-for-spec : {M : Type 1} → statement M
 plan-for-spec =
     tie.close
     (tie.spec
-    class-of-requires
-    class-row-requires
-    wide16-requires
-    slot-page-requires
-    plan-slot-requires
-    returns
-    plan-large-requires
+    (λ c κs. search needs) class-row-requires (λ c κs. search needs) slot-page-requires plan-slot-requires returns plan-large-requires
     returns-2)

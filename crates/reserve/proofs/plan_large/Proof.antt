@@ -8,14 +8,8 @@ use Rattle.reserve.proofs.plan_large.Tie as tie
 returns : tie.Need-returns
 returns c = large-huge _ _ _ (c .if1 .taken)
 
-add-m : tie.Need-add-m
-add-m c = search needs
-
-plan-run-requires : tie.Need-plan-run-requires
-plan-run-requires c κs = search needs
-
 returns-2 : tie.Need-returns-2
 returns-2 c = large-run _ _ _ _ _ (c .before .if1 .left) refl (c .plan-run .ensures)
 
 pub plan-large-spec : {M : Type 1} → statement M
-plan-large-spec = tie.close (tie.spec returns add-m plan-run-requires returns-2)
+plan-large-spec = tie.close (tie.spec returns (λ c. search needs) (λ c κs. search needs) returns-2)

@@ -4,9 +4,6 @@ use borrow.Author.Needs.{needs}
 use Rattle.reserve.proofs.reserve_sound.Statement.{statement}
 use Rattle.reserve.proofs.reserve_sound.Tie as tie
 
-plan-for-requires : tie.Need-plan-for-requires
-plan-for-requires c κs = search needs
-
 perform-plan-requires : tie.Need-perform-plan-requires
 perform-plan-requires c κs =
     let d = c .before .before .before .before .before .before .before .before .before .before in
@@ -23,15 +20,6 @@ answer-of-requires c κs =
     let e = d .before .before .before .before .before .before .before in
     (plan-low _ _ _ _ (d .plan-for .ensures) (e .pre), c .plan-size .ensures)
 
-same-length : tie.Need-same-length
-same-length c = search needs
-
-same-length-2 : tie.Need-same-length-2
-same-length-2 c = search needs
-
-same-length-3 : tie.Need-same-length-3
-same-length-3 c = search needs
-
 returns : tie.Need-returns
 returns c =
     let d = c .before .before .before .before .before .before .before .before in let e = d .before .before .before .before in
@@ -41,11 +29,5 @@ pub reserve-sound-spec : {M : Type 1} → statement M
 reserve-sound-spec =
     tie.close
     (tie.spec
-    plan-for-requires
-    perform-plan-requires
-    plan-size-requires
-    answer-of-requires
-    same-length
-    same-length-2
-    same-length-3
-    returns)
+    (λ c κs. search needs) perform-plan-requires plan-size-requires answer-of-requires (λ c. search needs) (λ c. search needs)
+    (λ c. search needs) returns)

@@ -5,18 +5,6 @@ use native.Mathlib.Omega.{arith}
 use Rattle.reserve.proofs.slot_given.Statement.{statement}
 use Rattle.reserve.proofs.slot_given.Tie as tie
 
-wide64-requires : tie.Need-wide64-requires
-wide64-requires c κs = search needs
-
-wide64-requires-2 : tie.Need-wide64-requires-2
-wide64-requires-2 c κs = search needs
-
-wide64-requires-3 : tie.Need-wide64-requires-3
-wide64-requires-3 c κs = search needs
-
-mul-t8 : tie.Need-mul-t8
-mul-t8 c = search needs
-
 mul-t9 : tie.Need-mul-t9
 mul-t9 c =
     let d = c .before .before .before in let m = slot-room (d .pre .0 .1) (d .pre .0 .2) (c .before .wide642 .ensures) (d .pre .1) in
@@ -28,9 +16,11 @@ add-t10 c =
     let k = c .before .before .wide64 .ensures in record { fits = omega arith }
 
 returns : tie.Need-returns
-returns c = slot-is (c .wide643 .ensures) (c .before .before .wide64 .ensures) (c .before .wide642 .ensures) (c .before .before .before .pre .1)
+returns c =
+    slot-is (c .wide643 .ensures) (c .before .before .wide64 .ensures) (c .before .wide642 .ensures) (c .before .before .before .pre .1)
 
 pub slot-given-spec : {M : Type 1} → statement M
 slot-given-spec =
     tie.close
-    (tie.spec wide64-requires wide64-requires-2 wide64-requires-3 mul-t8 mul-t9 add-t10 returns)
+    (tie.spec
+    (λ c κs. search needs) (λ c κs. search needs) (λ c κs. search needs) (λ c. search needs) mul-t9 add-t10 returns)

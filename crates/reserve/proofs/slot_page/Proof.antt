@@ -16,22 +16,20 @@ abbrev μ-loop : tie.MeasureT-loop
 μ-loop c bits words slots b n end g₀ g = end - g
 
 mul-end : tie.Need-mul-end Inv-loop μ-loop
-mul-end c = let s = admitted _ _ (c .before .before .before .pre .0) .shape in record { fits = omega arith }
+mul-end c =
+    let (sound, (class, count)) = c .before .before .before .pre in let s = admitted _ _ sound .shape in record { fits = omega arith }
 
 loop-holds : tie.Need-loop-holds Inv-loop μ-loop
-loop-holds c = let s = admitted _ _ (c .before .before .before .pre .0) .shape in (omega arith, refl, passed-none _ _ _, omega arith)
+loop-holds c =
+    let (sound, (class, count)) = c .before .before .before .pre in let s = admitted _ _ sound .shape in
+    (omega arith, refl, passed-none _ _ _, omega arith)
 
 has-slot-requires : tie.Need-has-slot-requires Inv-loop μ-loop
-has-slot-requires c κs = let e = c .before .before .before .before .before .pre in (e .0, omega arith, e .1, e .2)
+has-slot-requires c κs =
+    let (sound, (class, count)) = c .before .before .before .before .before .pre in (sound, (omega arith, (class, count)))
 
 returns : tie.Need-returns Inv-loop μ-loop
 returns c = passed-at (c .before .before .before .loop .inv .2) (omega arith) (c .before .has-slot .ensures) (c .if1 .taken)
-
-add-g : tie.Need-add-g Inv-loop μ-loop
-add-g c = search needs
-
-loop-less : tie.Need-loop-less Inv-loop μ-loop
-loop-less c = search needs
 
 loop-again : tie.Need-loop-again Inv-loop μ-loop
 loop-again c =
@@ -45,13 +43,4 @@ pub slot-page-spec : {M : Type 1} → statement M
 slot-page-spec =
     tie.close
     (tie.spec
-    Inv-loop
-    μ-loop
-    mul-end
-    loop-holds
-    has-slot-requires
-    returns
-    add-g
-    loop-less
-    loop-again
-    returns-2)
+    Inv-loop μ-loop mul-end loop-holds has-slot-requires returns (λ c. search needs) (λ c. search needs) loop-again returns-2)

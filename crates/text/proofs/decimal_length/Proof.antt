@@ -15,21 +15,15 @@ Inv-loop n m₀ k₀ m k = (k + length (decimal m) ≡ length (decimal n) + 1) �
 abbrev μ-loop : tie.MeasureT-loop
 μ-loop n m₀ k₀ m k = m
 
-loop-holds : tie.Need-loop-holds Inv-loop μ-loop
-loop-holds c = search needs
-
 add-k : tie.Need-add-k Inv-loop μ-loop
 add-k c = omega (arith, decimal-some (c .before .loop .m), decimal-short 19 (c .before .before .args .n) (omega arith))
-
-loop-less : tie.Need-loop-less Inv-loop μ-loop
-loop-less c = search needs
 
 loop-again : tie.Need-loop-again Inv-loop μ-loop
 loop-again c = omega (arith, decimal-length-large (c .before .loop .m) (omega arith))
 
 returns : tie.Need-returns Inv-loop μ-loop
-returns c = omega (arith, decimal-length-small (c .before .loop .m) (omega arith), decimal-short 19 (c .before .before .args .n) (omega arith))
+returns c =
+    omega (arith, decimal-length-small (c .before .loop .m) (omega arith), decimal-short 19 (c .before .before .args .n) (omega arith))
 
 pub decimal-length-spec : {M : Type 1} → statement M
-decimal-length-spec =
-    tie.close (tie.spec Inv-loop μ-loop loop-holds add-k loop-less loop-again returns)
+decimal-length-spec = tie.close (tie.spec Inv-loop μ-loop (λ c. search needs) add-k (λ c. search needs) loop-again returns)

@@ -17,23 +17,11 @@ Inv-loop out₀ at n k m₀ i₀ out m i = (i + 1 ≡ at + length (decimal m)) �
 abbrev μ-loop : tie.MeasureT-loop
 μ-loop out₀ at n k m₀ i₀ out m i = m
 
-decimal-length-requires : tie.Need-decimal-length-requires Inv-loop μ-loop
-decimal-length-requires c κs = search needs
-
 add-i : tie.Need-add-i Inv-loop μ-loop
 add-i c = omega (arith, decimal-short 19 (c .before .before .args .n) (omega arith))
 
-sub-i : tie.Need-sub-i Inv-loop μ-loop
-sub-i c = search needs
-
 loop-holds : tie.Need-loop-holds Inv-loop μ-loop
 loop-holds c = (omega arith, refl, omega arith, refl)
-
-cast-out : tie.Need-cast-out Inv-loop μ-loop
-cast-out c = search needs
-
-add-out : tie.Need-add-out Inv-loop μ-loop
-add-out c = search needs
 
 slice-write-out : tie.Need-slice-write-out Inv-loop μ-loop
 slice-write-out c = omega arith
@@ -41,27 +29,12 @@ slice-write-out c = omega arith
 sub-i-2 : tie.Need-sub-i-2 Inv-loop μ-loop
 sub-i-2 c = omega (arith, decimal-length-large _ (c .loop-test .taken), decimal-some (c .before .loop .m / 10))
 
-loop-less : tie.Need-loop-less Inv-loop μ-loop
-loop-less c = search needs
-
 loop-again : tie.Need-loop-again Inv-loop μ-loop
 loop-again c =
     let v = c .before .loop .inv in
     let l : length (decimal (c .before .loop .m)) ≡ length (decimal (c .before .loop .m / 10)) + 1 = decimal-length-large _ (c .loop-test .taken) in
     let s : 1 ≤ length (decimal (c .before .loop .m / 10)) = decimal-some _ in
     (omega arith, simp length-set (v .1), omega arith, digit-turn _ _ _ _ (c .loop-test .taken) (v .0) ∙ v .3)
-
-cast-out-2 : tie.Need-cast-out-2 Inv-loop μ-loop
-cast-out-2 c = search needs
-
-add-out-2 : tie.Need-add-out-2 Inv-loop μ-loop
-add-out-2 c = search needs
-
-slice-write-out-2 : tie.Need-slice-write-out-2 Inv-loop μ-loop
-slice-write-out-2 c = search needs
-
-add-result : tie.Need-add-result Inv-loop μ-loop
-add-result c = search needs
 
 same-length : tie.Need-same-length Inv-loop μ-loop
 same-length c = simp length-set (c .before .loop .inv .1)
@@ -75,21 +48,6 @@ pub put-decimal-spec : {M : Type 1} → statement M
 put-decimal-spec =
     tie.close
     (tie.spec
-    Inv-loop
-    μ-loop
-    decimal-length-requires
-    add-i
-    sub-i
-    loop-holds
-    cast-out
-    add-out
-    slice-write-out
-    sub-i-2
-    loop-less
-    loop-again
-    cast-out-2
-    add-out-2
-    slice-write-out-2
-    add-result
-    same-length
+    Inv-loop μ-loop (λ c κs. search needs) add-i (λ c. search needs) loop-holds (λ c. search needs) (λ c. search needs) slice-write-out
+    sub-i-2 (λ c. search needs) loop-again (λ c. search needs) (λ c. search needs) (λ c. search needs) (λ c. search needs) same-length
     returns)

@@ -18,24 +18,12 @@ returns-2 c = piece-none _ _ 93 refl (c .if2 .taken)
 put-decimal-requires : tie.Need-put-decimal-requires
 put-decimal-requires c κs = omega (arith, ap pieceRoom (c .before .if3 .taken))
 
-same-length : tie.Need-same-length
-same-length c = search needs
-
 returns-3 : tie.Need-returns-3
 returns-3 c =
     let p = c .before .before in piece-number _ _ (p .before .before .if3 .taken) (p .put-decimal .ensures .0) (p .put-decimal .ensures .1)
 
-cast-out : tie.Need-cast-out
-cast-out c = search needs
-
 slice-write-out : tie.Need-slice-write-out
 slice-write-out c = omega (arith, ap pieceRoom (c .if4 .taken))
-
-add-result : tie.Need-add-result
-add-result c = search needs
-
-same-length-2 : tie.Need-same-length-2
-same-length-2 c = search needs
 
 returns-4 : tie.Need-returns-4
 returns-4 c = piece-byte _ _ (c .if4 .taken)
@@ -44,12 +32,6 @@ slice-write-out-2 : tie.Need-slice-write-out-2
 slice-write-out-2 c =
     omega (arith, room-one _ (c .before .before .before .if1 .left) (c .before .before .if2 .left) (c .before .if3 .left))
 
-add-result-2 : tie.Need-add-result-2
-add-result-2 c = search needs
-
-same-length-3 : tie.Need-same-length-3
-same-length-3 c = search needs
-
 returns-5 : tie.Need-returns-5
 returns-5 c = piece-itself _ _ (c .before .before .before .if1 .left) (c .before .before .if2 .left) (c .before .if3 .left) (c .if4 .left)
 
@@ -57,17 +39,5 @@ pub put-piece-spec : {M : Type 1} → statement M
 put-piece-spec =
     tie.close
     (tie.spec
-    returns
-    returns-2
-    put-decimal-requires
-    same-length
-    returns-3
-    cast-out
-    slice-write-out
-    add-result
-    same-length-2
-    returns-4
-    slice-write-out-2
-    add-result-2
-    same-length-3
-    returns-5)
+    returns returns-2 put-decimal-requires (λ c. search needs) returns-3 (λ c. search needs) slice-write-out (λ c. search needs)
+    (λ c. search needs) returns-4 slice-write-out-2 (λ c. search needs) (λ c. search needs) returns-5)

@@ -15,9 +15,6 @@ Inv-loop c bits words slots table n blocks₀ bytes₀ g₀ blocks bytes g = (g 
 abbrev μ-loop : tie.MeasureT-loop
 μ-loop c bits words slots table n blocks₀ bytes₀ g₀ blocks bytes g = n - g
 
-class-rows-requires : tie.Need-class-rows-requires Inv-loop μ-loop
-class-rows-requires c κs = search needs
-
 mul-n : tie.Need-mul-n Inv-loop μ-loop
 mul-n c = let s = admitted _ _ (c .before .before .before .before .pre) .shape in record { fits = omega arith }
 
@@ -26,9 +23,6 @@ loop-holds c = (omega arith, refl, counted-start _ _)
 
 kind-at-requires : tie.Need-kind-at-requires Inv-loop μ-loop
 kind-at-requires c κs = (c .before .before .before .before .before .before .pre, omega arith)
-
-class-in-requires : tie.Need-class-in-requires Inv-loop μ-loop
-class-in-requires c κs = search needs
 
 mul-row : tie.Need-mul-row Inv-loop μ-loop
 mul-row c = let f = told-few _ _ _ (c .before .kind-at .ensures) in record { fits = omega arith }
@@ -39,13 +33,8 @@ array-copy-out-row c = let f = told-few _ _ _ (c .before .kind-at .ensures) in o
 page-amount-requires : tie.Need-page-amount-requires Inv-loop μ-loop
 page-amount-requires c κs =
     let d = c .before .before .before .before .before in let e = d .before .before .before .before in
-    let s = admitted _ _ (e .pre) .shape in (
-      omega arith,
-      omega arith,
-      told-few _ _ _ (c .before .before .kind-at .ensures) .1,
-      row-read _ _ _ _ (d .class-rows .ensures) refl
-          (c .before .class-in .ensures),
-    )
+    let s = admitted _ _ (e .pre) .shape in
+    (omega arith, (omega arith, (told-few _ _ _ (c .before .before .kind-at .ensures) .1, row-read _ _ _ _ (d .class-rows .ensures) refl (c .before .class-in .ensures))))
 
 add-blocks : tie.Need-add-blocks Inv-loop μ-loop
 add-blocks c =
@@ -67,9 +56,6 @@ add-g c =
     let d = c .before .before .before .before .before .before .before .before .before .before .before .before in
     let s = admitted _ _ (d .pre) .shape in record { fits = omega arith }
 
-loop-less : tie.Need-loop-less Inv-loop μ-loop
-loop-less c = search needs
-
 loop-again : tie.Need-loop-again Inv-loop μ-loop
 loop-again c =
     let d = c .before .before .before .before .before in let e = d .before .before in (
@@ -86,19 +72,5 @@ pub live-amount-spec : {M : Type 1} → statement M
 live-amount-spec =
     tie.close
     (tie.spec
-    Inv-loop
-    μ-loop
-    class-rows-requires
-    mul-n
-    loop-holds
-    kind-at-requires
-    class-in-requires
-    mul-row
-    array-copy-out-row
-    page-amount-requires
-    add-blocks
-    add-bytes
-    add-g
-    loop-less
-    loop-again
-    returns)
+    Inv-loop μ-loop (λ c κs. search needs) mul-n loop-holds kind-at-requires (λ c κs. search needs) mul-row array-copy-out-row
+    page-amount-requires add-blocks add-bytes add-g (λ c. search needs) loop-again returns)

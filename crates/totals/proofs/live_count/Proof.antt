@@ -4,11 +4,8 @@ use borrow.Author.Needs.{needs}
 use Rattle.totals.proofs.live_count.Statement.{statement}
 use Rattle.totals.proofs.live_count.Tie as tie
 
-live-amount-requires : tie.Need-live-amount-requires
-live-amount-requires c κs = search needs
-
 returns : tie.Need-returns
 returns c = count-as _ (c .live-amount .ensures)
 
 pub live-count-spec : {M : Type 1} → statement M
-live-count-spec = tie.close (tie.spec live-amount-requires returns)
+live-count-spec = tie.close (tie.spec (λ c κs. search needs) returns)

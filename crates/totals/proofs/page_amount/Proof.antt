@@ -6,44 +6,34 @@ use borrow.Author.Needs.{needs}
 use Rattle.totals.proofs.page_amount.Statement.{statement}
 use Rattle.totals.proofs.page_amount.Tie as tie
 
-enum-told : tie.Need-enum-told
-enum-told c = search needs
-
-mul-count-bits : tie.Need-mul-count-bits
-mul-count-bits c = search needs
-
-wide16-requires : tie.Need-wide16-requires
-wide16-requires c κs = search needs
-
 count-bits-requires : tie.Need-count-bits-requires
 count-bits-requires c κs =
-    let m = slots-few _ (row-as _ (c .before .enum-told .given .1) (c .before .before .before .before .pre .3)) (c .wide16 .ensures) in
+    let (long, (low, (span, row))) = c .before .before .before .before .pre in
+    let m = slots-few _ (row-as _ (c .before .enum-told .given .1) row) (c .wide16 .ensures) in
     (omega arith, omega arith)
-
-wide16-requires-2 : tie.Need-wide16-requires-2
-wide16-requires-2 c κs = search needs
 
 mul-t8 : tie.Need-mul-t8
 mul-t8 c =
-    let d = c .before .before .before .before .before .before in
-    let m = bytes-few _ _ _ (row-as _ (c .before .before .before .enum-told .given .1) (d .pre .3)) (c .before .before .wide16 .ensures)
+    let d = c .before .before .before .before .before .before in let (long, (low, (span, row))) = d .pre in
+    let m = bytes-few _ _ _ (row-as _ (c .before .before .before .enum-told .given .1) row) (c .before .before .wide16 .ensures)
     (c .before .count-bits .ensures) (c .wide162 .ensures) in
     record { fits = omega arith }
 
 returns : tie.Need-returns
 returns c =
-    let d = c .before .before .before in let e = d .before .before .before in
-    amount-class _ _ _ _ (d .enum-told .given .1) (row-as _ (d .enum-told .given .1) (e .pre .3)) (c .before .before .wide16 .ensures)
+    let d = c .before .before .before in let e = d .before .before .before in let (long, (low, (span, row))) = e .pre in
+    amount-class _ _ _ _ (d .enum-told .given .1) (row-as _ (d .enum-told .given .1) row) (c .before .before .wide16 .ensures)
     (c .before .count-bits .ensures) (c .wide162 .ensures)
 
-enum-known-k : tie.Need-enum-known-k
-enum-known-k c = search needs
-
 add-t9 : tie.Need-add-t9
-add-t9 c = let m = large-few (c .before .k .given .1) (c .before .before .before .before .pre .2) in record { fits = omega arith }
+add-t9 c =
+    let (long, (low, (span, row))) = c .before .before .before .before .pre in let m = large-few (c .before .k .given .1) span in
+    record { fits = omega arith }
 
 mul-t10 : tie.Need-mul-t10
-mul-t10 c = let m = large-few (c .before .k .given .1) (c .before .before .before .before .pre .2) in record { fits = omega arith }
+mul-t10 c =
+    let (long, (low, (span, row))) = c .before .before .before .before .pre in let m = large-few (c .before .k .given .1) span in
+    record { fits = omega arith }
 
 returns-2 : tie.Need-returns-2
 returns-2 c = amount-large (c .before .before .before .before .args .slots .now) _ _ _ (c .before .k .given .1)
@@ -55,15 +45,5 @@ pub page-amount-spec : {M : Type 1} → statement M
 page-amount-spec =
     tie.close
     (tie.spec
-    enum-told
-    mul-count-bits
-    wide16-requires
-    count-bits-requires
-    wide16-requires-2
-    mul-t8
-    returns
-    enum-known-k
-    add-t9
-    mul-t10
-    returns-2
-    returns-3)
+    (λ c. search needs) (λ c. search needs) (λ c κs. search needs) count-bits-requires (λ c κs. search needs) mul-t8 returns
+    (λ c. search needs) add-t9 mul-t10 returns-2 returns-3)

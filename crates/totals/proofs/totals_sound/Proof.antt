@@ -7,28 +7,16 @@ use borrow.Author.Needs.{needs}
 use Rattle.totals.proofs.totals_sound.Statement.{statement}
 use Rattle.totals.proofs.totals_sound.Tie as tie
 
-live-amount-requires : tie.Need-live-amount-requires
-live-amount-requires c κs = search needs
-
 mul-n : tie.Need-mul-n
 mul-n c = let s = admitted _ _ (c .before .before .before .before .pre) .shape in record { fits = omega arith }
 
 count-bits-requires : tie.Need-count-bits-requires
 count-bits-requires c κs = let s = admitted _ _ (c .before .before .before .before .pre) .shape in (omega arith, omega arith)
 
-wide64-requires : tie.Need-wide64-requires
-wide64-requires c κs = search needs
-
-wide64-requires-2 : tie.Need-wide64-requires-2
-wide64-requires-2 c κs = search needs
-
 sub-wide64 : tie.Need-sub-wide64
 sub-wide64 c =
     let d = c .before .before .before .before .before .before .before in
     let h = free-read _ _ (d .pre) _ _ refl (c .before .before .count-bits .ensures) in omega arith
-
-wide64-requires-3 : tie.Need-wide64-requires-3
-wide64-requires-3 c κs = search needs
 
 returns : tie.Need-returns
 returns c =
@@ -41,11 +29,5 @@ pub totals-sound-spec : {M : Type 1} → statement M
 totals-sound-spec =
     tie.close
     (tie.spec
-    live-amount-requires
-    mul-n
-    count-bits-requires
-    wide64-requires
-    wide64-requires-2
-    sub-wide64
-    wide64-requires-3
+    (λ c κs. search needs) mul-n count-bits-requires (λ c κs. search needs) (λ c κs. search needs) sub-wide64 (λ c κs. search needs)
     returns)
