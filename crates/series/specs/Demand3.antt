@@ -16,7 +16,7 @@ use Rattle.reserve.specs.Reserve.{reserveOf}
 use Rattle.release.specs.Release.{releaseOf}
 use Rattle.census.specs.Census.{wordsFor, counted, censusOf}
 use Rattle.replay.specs.declared.Event.{Event}
-use Rattle.replay.specs.declared.Event.the-variants.{Started, Served, Denied, Freed, Kept, Ended}
+use Rattle.replay.specs.declared.Event.the-variants.{Started, Served, Denied, Freed, Unfreed, Ended}
 use Rattle.replay.specs.Run.{reserveEvent, releaseEvent, runOf, replayOf}
 use Rattle.lines.specs.Lines.{roomFor, printedOf}
 
@@ -34,7 +34,7 @@ note (Started n) book = []
 note (Served n q z) book = block q z ∷ book
 note (Denied n r) book = book
 note (Freed q) book = takeOut q book
-note (Kept q r) book = book
+note (Unfreed q r) book = book
 note Ended book = book
 
 -- several calls in turn
