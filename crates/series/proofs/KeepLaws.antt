@@ -24,8 +24,8 @@ use Rattle.reserve.proofs.MeanLaws.{reserve-means}
 use Rattle.release.specs.Release.{give, releaseOf}
 use Rattle.release.proofs.MeanLaws.{release-means}
 use Rattle.replay.specs.declared.Event.{Event}
-use Rattle.replay.specs.Run.{reserveEvent, releaseEvent, Run, ended, runFrom, runOf, replayOf}
-use Rattle.replay.proofs.RunLaws.{over-from}
+use Rattle.replay.specs.Run.{reserveEvent, releaseEvent, Run, ended, runAll, runOf, replayOf}
+use Rattle.replay.proofs.RunLaws.{over-all}
 use Rattle.lines.specs.Lines.{roomFor, printed, telling, printedOf}
 use Rattle.series.specs.Demand3.{takeOut, note, notes, State, state, call, series, insert, sort}
 use Rattle.series.specs.Demand3.{Call, check, fresh, totals, reserve, release, blockSize, next, census, replay, lines, bytes}
@@ -138,23 +138,23 @@ module _ (c d : ℕ) (x : State) (h : Booked c x) where
 abbrev ran : State → Run → State
 ran x r = state (r .left) (notes (r .events) (x .book))
 
-run-keeps : (c : ℕ) (x : State) → Booked c x → (k : ℕ) (log : List ℕ) (at turn : ℕ) → Booked c (ran x (runFrom k c (x .pool) log at turn))
+run-keeps : (c : ℕ) (x : State) → Booked c x → (log : List ℕ) → Booked c (ran x (runAll c (x .pool) log))
 unfolding call note notes
-run-keeps c x h k log at turn =
-    over-from c (λ (p : Pool) (r : Run). (book : List Block) → Booked c (state p book) → Booked c (ran (state p book) r))
+run-keeps c x h log =
+    over-all c (λ (p : Pool) (r : Run). (book : List Block) → Booked c (state p book) → Booked c (ran (state p book) r))
     (record {
       stop = λ p r q book g. g;
       fresh = λ p r later book g. later [] (fresh-noted c p (g .good .shape));
       reserve = λ p n r later book g. later _ (reserve-keeps c c (state p book) g n);
       release = λ p q r later book g. later _ (release-keeps c c (state p book) g q);
       end = λ p r later book g. later book g;
-    }) k (x .pool) log at turn (x .book) h
+    }) (x .pool) log (x .book) h
 
 -- the printed lines leave what the replay leaves, unless the buffer is refused
 lines-left : (d : ℕ) (p : Pool) (log out : List ℕ)
     → printedOf d p log out .left .0 ≡ cond (ltb (length out) (roomFor (length log))) p (runOf d p log .left)
 unfolding printedOf telling runOf
-lines-left d p log out = go (fit d p) (ltb (length out) (roomFor (length log))) (runFrom (suc (length log)) d p log 0 0)
+lines-left d p log out = go (fit d p) (ltb (length out) (roomFor (length log))) (runAll d p log)
   where
     go : (v t : Bool) (r : Run)
         → cond v (cond t (leaves (printed 7 0 0) (p, out)) (telling d (cond v r (ended 1 0 p)) out)) (leaves (printed 1 0 0) (p, out)) .left .0
@@ -168,8 +168,8 @@ module _ (c d : ℕ) (x : State) (h : Booked c x) (log : List ℕ) where
   replay-keeps : Booked c (call (replay d log) x)
   unfolding call replayOf runOf notes
   replay-keeps =
-      fit-cases c d x h (λ (r : Run). Booked c (ran x r)) (λ m. runFrom (suc (length log)) m (x .pool) log 0 0)
-      (run-keeps c x h (suc (length log)) log 0 0) h
+      fit-cases c d x h (λ (r : Run). Booked c (ran x r)) (λ m. runAll m (x .pool) log)
+      (run-keeps c x h log) h
 
   lines-keeps : (out : List ℕ) → Booked c (call (lines d log out) x)
   unfolding call replayOf
