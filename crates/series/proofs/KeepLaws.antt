@@ -7,7 +7,7 @@ use Prim.Native.Nat.{ℕ, zero, suc, _-_}
 use native.Mathlib.Omega.{arith}
 use lib.Dec.{eqb, ltb}
 use lib.ListN.{length}
-use Rattle.refusals.specs.Refusals.{unless}
+use Rattle.refusals.specs.Refusals.{unless, shape, shortRoom}
 use Rattle.records.specs.Pool.{Pool}
 use Rattle.records.specs.Calls.{fit, admitOf, Left, leaves, freshPool, freshOf}
 use Rattle.records.proofs.Flags.{eq-cases}
@@ -157,8 +157,8 @@ unfolding printedOf telling runOf
 lines-left d p log out = go (fit d p) (ltb (length out) (roomFor (length log))) (runAll d p log)
   where
     go : (v t : Bool) (r : Run)
-        → cond v (cond t (leaves (printed 7 0 0) (p, out)) (telling d (cond v r (ended 1 0 p)) out)) (leaves (printed 1 0 0) (p, out)) .left .0
-        ≡ cond t p (cond v r (ended 1 0 p) .left)
+        → cond v (cond t (leaves (printed shortRoom 0 0) (p, out)) (telling d (cond v r (ended shape 0 p)) out)) (leaves (printed shape 0 0) (p, out)) .left .0
+        ≡ cond t p (cond v r (ended shape 0 p) .left)
     go true true r = refl
     go true false r = refl
     go false true r = refl
