@@ -17,11 +17,4 @@ returns-2 c =
     work .census-sound .ensures ∙ served _ _ _ _ (check .before .admit .ensures) (check .if1 .left)
 
 pub lensember-census-spec : {M : Type 1} → statement M
-lensember-census-spec =
-    tie.close
-    (tie.spec
-    (λ c κs. search needs)
-    returns
-    (λ c κs. search needs)
-    (λ c. search needs)
-    returns-2)
+lensember-census-spec = tie.close (tie.spec (λ c κs. search needs) returns (λ c κs. search needs) (λ c. search needs) returns-2)

@@ -17,11 +17,4 @@ returns-2 c =
     c .answer-of .ensures ∙ ap answerOf (work .next-sound .ensures) ∙ served _ _ _ _ (check .before .admit .ensures) (check .if1 .left)
 
 pub lensember-next-spec : {M : Type 1} → statement M
-lensember-next-spec =
-    tie.close
-    (tie.spec
-    (λ c κs. search needs)
-    returns
-    (λ c κs. search needs)
-    (λ c κs. search needs)
-    returns-2)
+lensember-next-spec = tie.close (tie.spec (λ c κs. search needs) returns (λ c κs. search needs) (λ c κs. search needs) returns-2)

@@ -16,10 +16,4 @@ returns-2 c =
     c .totals-sound .ensures ∙ served _ _ _ _ (c .before .before .admit .ensures) (c .before .if1 .left)
 
 pub lensember-totals-spec : {M : Type 1} → statement M
-lensember-totals-spec =
-    tie.close
-    (tie.spec
-    (λ c κs. search needs)
-    returns
-    (λ c κs. search needs)
-    returns-2)
+lensember-totals-spec = tie.close (tie.spec (λ c κs. search needs) returns (λ c κs. search needs) returns-2)
