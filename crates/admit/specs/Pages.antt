@@ -6,7 +6,8 @@ use mathlib.Core.List.{List, [], _∷_}
 use mathlib.Core.Option.{Option, none, some}
 use Prim.Native.Nat.{ℕ, zero, suc, _+_, _-_, _*_, _/_, _^_, _<_, _≤_}
 use lib.Dec.{eqb}
-use lib.ListN.{getD}
+use lib.ListN.{length, getD}
+use Rattle.admit.specs.Masks.{maskTable}
 use Rattle.records.specs.Kinds.{kindOf, behind, slotsOf}
 use Rattle.records.specs.Pool.{Pool}
 use Rattle.records.specs.Sound.{all, step, soundFrom}
@@ -30,6 +31,15 @@ slotsClear ss g n = all 8 (wordClear ss g n)
 -- the pages of a run of each class behind its first
 pub record Behinds (l : List ℕ) : Type 0 where
   pub at : (k : ℕ) → k < 30 → getD l k 0 ≡ behind k
+
+-- page-bit word i, its pages and their slots lie inside the buffers, and the tables are those of the classes
+pub record Inside (i : ℕ) (p : Pool) (masks behinds : List ℕ) : Type 0 where
+  pub low : i < 128
+  pub bit : i < length (p .bits)
+  pub word : 64 * i + 64 ≤ length (p .words)
+  pub slot : 512 * i + 512 ≤ length (p .slots)
+  pub table : masks ≡ maskTable
+  pub behind : Behinds behinds
 
 -- the two numbers are those of a run: its words are inner words, and no sum wraps
 pub record Ready (left due : ℕ) : Type 0 where

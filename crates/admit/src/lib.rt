@@ -9,11 +9,11 @@ ghost use lib.Dec.{eqb};
 ghost use lib.ListN.{length, getD};
 ghost use Rattle.records.specs.declared.Kind.the-variants.{Class};
 ghost use Rattle.records.specs.Kinds.{slotsOf};
-ghost use Rattle.records.specs.Lent.{before};
+ghost use Rattle.records.specs.Lent.{before, lent};
 ghost use Rattle.records.specs.Sound.{soundFrom};
 ghost use Rattle.records.specs.Calls.{admitOf};
 ghost use Rattle.admit.specs.Masks.{maskTable};
-ghost use Rattle.admit.specs.Pages.{nextWord, slotsClear, Behinds, Ready, Paged, Checked};
+ghost use Rattle.admit.specs.Pages.{nextWord, slotsClear, Behinds, Ready, Paged, Checked, Inside};
 
 mod masks;
 
@@ -208,12 +208,7 @@ fn mixed_64(
     masks: &[u64; 240],
     behinds: &[u32; 30],
 ) -> State
-    requires low { ⌜ i < 128 ⌝ }
-    requires bit { ⌜ i < length (now bits) ⌝ }
-    requires word { ⌜ 64 * i + 64 ≤ length (now words) ⌝ }
-    requires slot { ⌜ 512 * i + 512 ≤ length (now slots) ⌝ }
-    requires table { ⌜ now masks ≡ maskTable ⌝ }
-    requires behind { ⌜ Behinds (now behinds) ⌝ }
+    requires inside { ⌜ Inside i (lent bits words slots) (now masks) (now behinds) ⌝ }
     requires ready { ⌜ Ready left due ⌝ }
     ensures { λ r. ⌜ Checked (before bits words slots) i left due (r .ok) (r .left) (r .due) ⌝ }
 {
@@ -285,12 +280,7 @@ fn pages_64(
     masks: &[u64; 240],
     behinds: &[u32; 30],
 ) -> State
-    requires low { ⌜ i < 128 ⌝ }
-    requires bit { ⌜ i < length (now bits) ⌝ }
-    requires word { ⌜ 64 * i + 64 ≤ length (now words) ⌝ }
-    requires slot { ⌜ 512 * i + 512 ≤ length (now slots) ⌝ }
-    requires table { ⌜ now masks ≡ maskTable ⌝ }
-    requires behind { ⌜ Behinds (now behinds) ⌝ }
+    requires inside { ⌜ Inside i (lent bits words slots) (now masks) (now behinds) ⌝ }
     requires ready { ⌜ Ready left due ⌝ }
     ensures { λ r. ⌜ Checked (before bits words slots) i left due (r .ok) (r .left) (r .due) ⌝ }
 {

@@ -2,8 +2,8 @@
 use mathlib.Core.Path.{_≡_}
 use mathlib.Core.Bool.{true}
 use mathlib.Core.List.{List}
-use Prim.Native.Nat.{ℕ, _+_, _*_}
-use lib.ListN.{length}
+use Prim.Native.Nat.{ℕ, suc, _+_, _*_, _<_, _≤_}
+use lib.ListN.{length, getD}
 use lib.Seq.{sets}
 use Rattle.bitrow.specs.Row.{putBit, putBits}
 use Rattle.records.specs.Pool.{Pool, pool}
@@ -18,6 +18,14 @@ putRun v p g ws = pool (putBits v (p .bits) g (length ws)) (sets (p .words) g ws
 -- slot s of the run that starts at page g gets the slot bit v
 unfoldable pub putSlot : ℕ → Pool → ℕ → ℕ → Pool
 putSlot v p g s = pool (p .bits) (p .words) (putBit v (p .slots) (512 * g + s))
+
+-- a large run at page g with k pages behind it lies inside the buffers, and the pages behind have the word 0
+pub record LargeRoom (g k : ℕ) (bits words : List ℕ) : Type 0 where
+  pub few : k < 511
+  pub low : g + suc k ≤ 8192
+  pub bit : g + suc k ≤ 64 * length bits
+  pub word : g + suc k ≤ length words
+  pub zero : (i : ℕ) → g < i → i < g + suc k → getD words i 0 ≡ 0
 
 -- records of c chunks, sound
 pub record Good (c : ℕ) (p : Pool) : Type 0 where

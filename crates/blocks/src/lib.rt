@@ -9,7 +9,7 @@ ghost use Rattle.classes.specs.Classes.{pages};
 ghost use Rattle.records.specs.declared.Kind.the-variants.{Large, Class};
 ghost use Rattle.records.specs.Kinds.{zeros, wordsOf};
 ghost use Rattle.records.specs.Lent.{before, after};
-ghost use Rattle.blocks.specs.Stores.{putRun, putSlot};
+ghost use Rattle.blocks.specs.Stores.{putRun, putSlot, LargeRoom};
 ghost use Rattle.blocks.specs.Keeps.{Keeps};
 ghost use Rattle.blocks.specs.Apart.{Apart};
 
@@ -55,11 +55,7 @@ pub fn put_class(bits: &mut [u64], words: &mut [u32], slots: &[u64], g: usize, b
 
 // A large run at page g, with k pages behind it. These have the word 0 already, so only the first is written.
 pub fn put_large(bits: &mut [u64], words: &mut [u32], slots: &[u64], g: usize, k: usize)
-    requires few { ⌜ k < 511 ⌝ }
-    requires low { ⌜ g + suc k ≤ 8192 ⌝ }
-    requires bit { ⌜ g + suc k ≤ 64 * length (now bits) ⌝ }
-    requires word { ⌜ g + suc k ≤ length (now words) ⌝ }
-    requires zero { ⌜ ((i : ℕ) → g < i → i < g + suc k → getD (now words) i 0 ≡ 0) ⌝ }
+    requires { ⌜ LargeRoom g k (now bits) (now words) ⌝ }
     ensures { λ _. ⌜ after bits words slots ≡ putRun 1 (before bits words slots) g (wordsOf (Large k)) ⌝ }
 {
     bitrow::put_bits(bits, g, k + 1, true);
@@ -68,11 +64,7 @@ pub fn put_large(bits: &mut [u64], words: &mut [u32], slots: &[u64], g: usize, k
 
 // The pages of a large run at page g, with k pages behind it, are free again. Only the first has a word to clear.
 pub fn free_large(bits: &mut [u64], words: &mut [u32], slots: &[u64], g: usize, k: usize)
-    requires few { ⌜ k < 511 ⌝ }
-    requires low { ⌜ g + suc k ≤ 8192 ⌝ }
-    requires bit { ⌜ g + suc k ≤ 64 * length (now bits) ⌝ }
-    requires word { ⌜ g + suc k ≤ length (now words) ⌝ }
-    requires zero { ⌜ ((i : ℕ) → g < i → i < g + suc k → getD (now words) i 0 ≡ 0) ⌝ }
+    requires { ⌜ LargeRoom g k (now bits) (now words) ⌝ }
     ensures { λ _. ⌜ after bits words slots ≡ putRun 0 (before bits words slots) g (zeros (suc k)) ⌝ }
 {
     bitrow::put_bits(bits, g, k + 1, false);

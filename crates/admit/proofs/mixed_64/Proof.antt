@@ -20,14 +20,14 @@ returns c = let f = c .before .edge-ok .ensures .1 (not-true _ (c .if1 .taken)) 
 loop-holds : tie.Need-loop-holds Inv-loop μ-loop
 loop-holds c =
     let d = c .before .before .before .before .before .before .before in
-    let (low, (bit, (word, (slot, (table, (behind, ready)))))) = d .pre in
+    let (inside, ready) = d .pre in
     (omega arith, walked-start _ _ _ _ ready (c .before .before .edge-ok .ensures .0 (not-false _ (c .before .if1 .left))))
 
 page-requires : tie.Need-page-requires Inv-loop μ-loop
 page-requires c κs =
     let d = c .before .before .before .before .before .before .before .before .before .before in
-    let (low, (bit, (word, (slot, (table, (behind, ready)))))) = d .pre in
-    (omega arith, (omega arith, (table, (behind, c .before .before .loop .inv .1 .ready))))
+    let (inside, ready) = d .pre in
+    (omega arith, (omega arith, (inside .table, (inside .behind, c .before .before .loop .inv .1 .ready))))
 
 returns-2 : tie.Need-returns-2 Inv-loop μ-loop
 returns-2 c =

@@ -19,8 +19,17 @@ loop-holds c = (omega arith, blocks-start _ _)
 
 pages-64-requires : tie.Need-pages-64-requires Inv-loop μ-loop
 pages-64-requires c κs =
-    let d = c .before .before .before .before .before in
-    (omega arith, (omega arith, (omega arith, (omega arith, (d .mask-table .ensures, (c .before .before .before .before .behind-table .ensures, c .before .before .before .loop .inv .1 .ready))))))
+    let turn = c .before .before .before in let behind = turn .before in (
+      record {
+        low = omega arith;
+        bit = omega arith;
+        word = omega arith;
+        slot = omega arith;
+        table = behind .before .mask-table .ensures;
+        behind = behind .behind-table .ensures;
+      },
+      turn .loop .inv .1 .ready,
+    )
 
 returns : tie.Need-returns Inv-loop μ-loop
 returns c =

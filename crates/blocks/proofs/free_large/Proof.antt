@@ -9,8 +9,7 @@ use Rattle.blocks.proofs.free_large.Tie as tie
 returns : tie.Need-returns
 returns c =
     let puts = c .before .before in let start = puts .before .before .before .before .before in
-    let (few, (low, (bit, (word, zero)))) = start .pre in
-    first-put _ _ _ _ _ zero _ _ _ (omega arith) (puts .put-bits .ensures) refl
+    first-put _ _ _ _ _ (start .pre .zero) _ _ _ (omega arith) (puts .put-bits .ensures) refl
 
 pub free-large-spec : {M : Type 1} → statement M
 free-large-spec =

@@ -10,8 +10,7 @@ use Rattle.blocks.proofs.put_large.Tie as tie
 returns : tie.Need-returns
 returns c =
     let puts = c .before .before .before in let start = puts .before .before .before .before .before in
-    let (few, (low, (bit, (word, zero)))) = start .pre in
-    first-put _ _ _ _ _ zero _ _ _ (omega arith) (puts .put-bits .ensures) (c .large-word .ensures ∙ ap largeWord (omega arith))
+    first-put _ _ _ _ _ (start .pre .zero) _ _ _ (omega arith) (puts .put-bits .ensures) (c .large-word .ensures ∙ ap largeWord (omega arith))
 
 pub put-large-spec : {M : Type 1} → statement M
 put-large-spec =

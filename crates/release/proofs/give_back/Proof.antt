@@ -15,7 +15,8 @@ free-large-requires c κs =
     let matched = c .before .before .before .before in let start = matched .before .before .before .before .before in
     let a = admitted _ _ (start .pre .0) in let h = a .shape in
     let r : RunAt _ _ _ _ _ = found _ _ _ (start .pre .1 .1) (matched .x2 .given .1) in
-    let e = large-ends _ _ (a .whole) r in (e .1, (omega arith, (omega arith, (omega arith, large-zeros _ _ (a .whole) r))))
+    let e = large-ends _ _ (a .whole) r in
+    record { few = e .1; low = omega arith; bit = omega arith; word = omega arith; zero = large-zeros _ _ (a .whole) r }
 
 returns-2 : tie.Need-returns-2
 returns-2 c =

@@ -50,7 +50,7 @@ put-large-requires c κs =
     let matched = c .before .before .before .before in let start = matched .before .before .before .before .before in
     let h = admitted _ _ (start .pre .0) .shape in
     let r : PagesFree _ _ _ _ = ok-as _ _ (matched .x4 .given .1) (start .pre .1) in let i = r .inside in let f = r .few in
-    (omega arith, (omega arith, (omega arith, (omega arith, free-words r))))
+    record { few = omega arith; low = omega arith; bit = omega arith; word = omega arith; zero = free-words r }
 
 returns-4 : tie.Need-returns-4
 returns-4 c =
