@@ -191,7 +191,7 @@ fn edge_ok(i: usize, left: u32, w: u32) -> bool
     w == 0x40000001
 }
 
-pub struct State {
+pub struct Progress {
     pub ok: bool,
     pub left: u32,
     pub due: u32,
@@ -207,13 +207,13 @@ fn mixed_64(
     due: u32,
     masks: &[u64; 240],
     behinds: &[u32; 30],
-) -> State
+) -> Progress
     requires inside { ⌜ Inside i (lent bits words slots) (now masks) (now behinds) ⌝ }
     requires ready { ⌜ Ready left due ⌝ }
     ensures { λ r. ⌜ Checked (before bits words slots) i left due (r .ok) (r .left) (r .due) ⌝ }
 {
     if !edge_ok(i, left, words[64 * i]) {
-        return State {
+        return Progress {
             ok: false,
             left: 0,
             due: 0,
@@ -229,7 +229,7 @@ fn mixed_64(
         let w = words[g];
         let s = page(w, bw % 2 == 1, l, d, slots, g, masks, behinds);
         if !s.ok {
-            return State {
+            return Progress {
                 ok: false,
                 left: 0,
                 due: 0,
@@ -241,7 +241,7 @@ fn mixed_64(
         bw = bw / 2;
         p += 1;
     }
-    State {
+    Progress {
         ok: acc == 0,
         left: l,
         due: d,
@@ -279,7 +279,7 @@ fn pages_64(
     due: u32,
     masks: &[u64; 240],
     behinds: &[u32; 30],
-) -> State
+) -> Progress
     requires inside { ⌜ Inside i (lent bits words slots) (now masks) (now behinds) ⌝ }
     requires ready { ⌜ Ready left due ⌝ }
     ensures { λ r. ⌜ Checked (before bits words slots) i left due (r .ok) (r .left) (r .due) ⌝ }
@@ -288,7 +288,7 @@ fn pages_64(
         if i % 8 != 0 {
             if bits[i] == 0 {
                 let ok = free_64(bits, words, slots, i);
-                return State {
+                return Progress {
                     ok: ok,
                     left: 0,
                     due: 0,

@@ -1,8 +1,8 @@
 // The live blocks of a pool, and how each store changes them. Nobody else writes a slot bit or the words and bits of a run. Definitions in
 // specs/, laws in proofs/.
 ghost use mathlib.Core.Path.{_≡_};
-ghost use Prim.Native.Nat.{ℕ, suc, _+_, _*_, _<_, _≤_};
-ghost use lib.ListN.{length, getD};
+ghost use Prim.Native.Nat.{suc, _+_, _*_, _<_, _≤_};
+ghost use lib.ListN.{length};
 ghost use lib.Seq.{sets};
 ghost use Rattle.bitrow.specs.Row.{digit};
 ghost use Rattle.classes.specs.Classes.{pages};

@@ -5,12 +5,12 @@ use Rattle.records.specs.Calls.{Left, leaves}
 use Rattle.reserve.specs.declared.Given.{Given}
 use Rattle.reserve.specs.declared.Reserved.{Reserved}
 use Rattle.lensember.specs.declared.FlatReserved.{FlatReserved}
-use Rattle.lensember.specs.Flat.{flat, flatReserved, reservedOf}
+use Rattle.lensember.specs.Flat.{flatAs, flatReserved, reservedOf}
 
 -- by the kind, as it was matched
-pub flat-as : (r : Reserved) {k : Given} → r .kind ≡ k → flat (r .refusal) (r .place) (r .size) k ≡ flatReserved r
+pub flat-as : (r : Reserved) {k : Given} → r .kind ≡ k → flatAs (r .refusal) (r .place) (r .size) k ≡ flatReserved r
 unfolding flatReserved
-flat-as r e = ap (flat (r .refusal) (r .place) (r .size)) (sym e)
+flat-as r e = ap (flatAs (r .refusal) (r .place) (r .size)) (sym e)
 
 pub reserved-as : {r : Reserved} {p : Pool} {y : Left Reserved Pool} (x : FlatReserved) → x ≡ flatReserved r → leaves r p ≡ y → leaves x p ≡ reservedOf y
 unfolding reservedOf

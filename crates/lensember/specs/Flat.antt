@@ -7,14 +7,14 @@ use Rattle.reserve.specs.declared.Given.the-variants.{Slot, Run, None}
 use Rattle.reserve.specs.declared.Reserved.{Reserved}
 use Rattle.lensember.specs.declared.FlatReserved.{FlatReserved}
 
-abbrev pub flat : ℕ → ℕ → ℕ → Given → FlatReserved
-flat r p z (Slot s) =
+abbrev pub flatAs : ℕ → ℕ → ℕ → Given → FlatReserved
+flatAs r p z (Slot s) =
     record { refusal = r; place = p; size = z; kind = 1; class = s .class; first = s .first; number = s .number; pages = 0 }
-flat r p z (Run n) = record { refusal = r; place = p; size = z; kind = 2; class = 0; first = 0; number = 0; pages = n }
-flat r p z None = record { refusal = r; place = p; size = z; kind = 0; class = 0; first = 0; number = 0; pages = 0 }
+flatAs r p z (Run n) = record { refusal = r; place = p; size = z; kind = 2; class = 0; first = 0; number = 0; pages = n }
+flatAs r p z None = record { refusal = r; place = p; size = z; kind = 0; class = 0; first = 0; number = 0; pages = 0 }
 
 unfoldable pub flatReserved : Reserved → FlatReserved
-flatReserved r = flat (r .refusal) (r .place) (r .size) (r .kind)
+flatReserved r = flatAs (r .refusal) (r .place) (r .size) (r .kind)
 
 -- what a reserve leaves, with its answer so
 unfoldable pub reservedOf : Left Reserved Pool → Left FlatReserved Pool

@@ -40,13 +40,13 @@ samples =
     []
 
 -- what a row says
-unfoldable pub Holds : Sample → Type 0
-Holds (class n b) = classFor n ≡ b
-Holds (gaps gs) = gapsOf pageBits 0 ≡ gs
-Holds (starts n g) = findPages 1 pageBits n ≡ At g
-Holds (noGap n) = findPages 1 pageBits n ≡ Nothing
+unfoldable pub Says : Sample → Type 0
+Says (class n b) = classFor n ≡ b
+Says (gaps gs) = gapsOf pageBits 0 ≡ gs
+Says (starts n g) = findPages 1 pageBits n ≡ At g
+Says (noGap n) = findPages 1 pageBits n ≡ Nothing
 
 -- each row holds
 pub data Each : List Sample → Type 0 where
   none : Each []
-  row : {s : Sample} {rest : List Sample} → Holds s → Each rest → Each (s ∷ rest)
+  row : {s : Sample} {rest : List Sample} → Says s → Each rest → Each (s ∷ rest)

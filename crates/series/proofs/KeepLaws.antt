@@ -26,7 +26,7 @@ use Rattle.release.proofs.MeanLaws.{release-means}
 use Rattle.replay.specs.declared.Event.{Event}
 use Rattle.replay.specs.Run.{reserveEvent, releaseEvent, Run, ended, runAll, runOf, replayOf}
 use Rattle.replay.proofs.RunLaws.{over-all}
-use Rattle.lines.specs.Lines.{roomFor, printed, telling, printedOf}
+use Rattle.lines.specs.Lines.{linesRoom, printed, telling, printedOf}
 use Rattle.series.specs.Demand3.{takeOut, note, notes, State, state, call, series, insert, sort}
 use Rattle.series.specs.Demand3.{Call, check, fresh, totals, reserve, release, blockSize, next, census, replay, lines, bytes}
 use Rattle.series.proofs.BookLaws.{ins-insert, ins-out, sort-out}
@@ -152,9 +152,9 @@ run-keeps c x h log =
 
 -- the printed lines leave what the replay leaves, unless the buffer is refused
 lines-left : (d : ℕ) (p : Pool) (log out : List ℕ)
-    → printedOf d p log out .left .0 ≡ cond (ltb (length out) (roomFor (length log))) p (runOf d p log .left)
+    → printedOf d p log out .left .0 ≡ cond (ltb (length out) (linesRoom (length log))) p (runOf d p log .left)
 unfolding printedOf telling runOf
-lines-left d p log out = go (fit d p) (ltb (length out) (roomFor (length log))) (runAll d p log)
+lines-left d p log out = go (fit d p) (ltb (length out) (linesRoom (length log))) (runAll d p log)
   where
     go : (v t : Bool) (r : Run)
         → cond v (cond t (leaves (printed shortRoom 0 0) (p, out)) (telling d (cond v r (ended shape 0 p)) out)) (leaves (printed shape 0 0) (p, out)) .left .0
@@ -177,7 +177,7 @@ module _ (c d : ℕ) (x : State) (h : Booked c x) (log : List ℕ) where
       subst (λ (p : Pool). Booked c (state p (cond short (x .book) (x′ .book)))) (sym (lines-left d (x .pool) log out)) (go short)
     where
       short : Bool
-      short = ltb (length out) (roomFor (length log))
+      short = ltb (length out) (linesRoom (length log))
 
       x′ : State
       x′ = ran x (runOf d (x .pool) log)

@@ -18,7 +18,7 @@ use Rattle.census.specs.Census.{wordsFor, counted, censusOf}
 use Rattle.replay.specs.declared.Event.{Event}
 use Rattle.replay.specs.declared.Event.the-variants.{Started, Served, Denied, Freed, Unfreed, Ended}
 use Rattle.replay.specs.Run.{reserveEvent, releaseEvent, runOf, replayOf}
-use Rattle.lines.specs.Lines.{roomFor, printedOf}
+use Rattle.lines.specs.Lines.{linesRoom, printedOf}
 
 -- ---- the book: a list of blocks, each a place and a size
 
@@ -78,7 +78,7 @@ call (replay c log) x = state (replayOf c (x .pool) log .left) (notes (runOf c (
 -- a replay, unless the buffer is refused
 call (lines c log out) x =
     state (printedOf c (x .pool) log out .left .0)
-    (cond (ltb (length out) (roomFor (length log))) (x .book) (notes (runOf c (x .pool) log .events) (x .book)))
+    (cond (ltb (length out) (linesRoom (length log))) (x .book) (notes (runOf c (x .pool) log .events) (x .book)))
 call (check c) x = x
 call (blockSize c q) x = x
 call (next c q) x = x
