@@ -98,7 +98,8 @@ fn next_word(due: u32) -> u32
 
 // Whether lo ≤ w < hi. Compiled to one comparison.
 fn in_range(w: u32, lo: u32, hi: u32) -> bool
-    ensures { λ r. ⌜ (r ≡ true → (lo ≤ w) × (w < hi)) × (r ≡ false → lo ≤ w → w < hi → ⊥) ⌝ }
+    ensures yes { λ r. ⌜ (r ≡ true → (lo ≤ w) × (w < hi)) ⌝ }
+    ensures no { λ r. ⌜ (r ≡ false → lo ≤ w → w < hi → ⊥) ⌝ }
 {
     if w < lo {
         return false;
@@ -180,7 +181,8 @@ fn page(
 
 // Page 0 of a chunk, where page-bit word i begins one, has its own word, and no run comes into it. Then it goes on like a large run of one page.
 fn edge_ok(i: usize, left: u32, w: u32) -> bool
-    ensures { λ r. ⌜ (r ≡ true → i % 8 ≡ 0 → (left ≡ 0) × (w ≡ 0x40000001)) × (r ≡ false → (i % 8 ≡ 0) × (left ≡ 0 → w ≡ 0x40000001 → ⊥)) ⌝ }
+    ensures yes { λ r. ⌜ (r ≡ true → i % 8 ≡ 0 → (left ≡ 0) × (w ≡ 0x40000001)) ⌝ }
+    ensures no { λ r. ⌜ (r ≡ false → (i % 8 ≡ 0) × (left ≡ 0 → w ≡ 0x40000001 → ⊥)) ⌝ }
 {
     if i % 8 != 0 {
         return true;

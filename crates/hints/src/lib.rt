@@ -71,7 +71,8 @@ fn note_slot(slots: &[u64], hints: &mut [u64], g: usize, b: usize) -> u64
     requires low { ⌜ g < 8192 ⌝ }
     requires class { ⌜ b < 30 ⌝ }
     requires long { ⌜ 8 * g + 8 ≤ length (now slots) ⌝ }
-    ensures { λ r. ⌜ (now (hints .exit) ≡ notedSlot (now (slots .entry)) (now (hints .entry)) g b) × (r ≡ size b) ⌝ }
+    ensures noted { λ r. ⌜ now (hints .exit) ≡ notedSlot (now (slots .entry)) (now (hints .entry)) g b ⌝ }
+    ensures size { λ r. ⌜ r ≡ size b ⌝ }
 {
     let bytes = hints[3870 + b];
     let n = hints[3900 + b] as usize;
@@ -83,7 +84,8 @@ fn note_slot(slots: &[u64], hints: &mut [u64], g: usize, b: usize) -> u64
 // A plan was performed; answers the size of its slot, 0 where it is for none.
 fn note_plan(slots: &[u64], hints: &mut [u64], x: reserve::Plan) -> u64
     requires { ⌜ (Cuts (now hints)) × (PlanNear (length (now slots)) x) ⌝ }
-    ensures { λ r. ⌜ (now (hints .exit) ≡ notedPlan (now (slots .entry)) (now (hints .entry)) x) × (PlanSize x r) ⌝ }
+    ensures noted { λ r. ⌜ now (hints .exit) ≡ notedPlan (now (slots .entry)) (now (hints .entry)) x ⌝ }
+    ensures size { λ r. ⌜ PlanSize x r ⌝ }
 {
     match x {
         reserve::Plan::Refuse(r) => {
@@ -118,7 +120,8 @@ fn take_slot(
     requires count { ⌜ n ≡ slotsOf (Class b) ⌝ }
     requires first { ⌜ g ≡ slotPage (lent bits words slots) b 0 (512 * c) ⌝ }
     requires inside { ⌜ g < 512 * c ⌝ }
-    ensures { λ r. ⌜ (leaves r (after bits words slots) ≡ carried (before bits words slots) (planSlot c (before bits words slots) b)) × (Hints c (after bits words slots) (now (hints .exit))) ⌝ }
+    ensures given { λ r. ⌜ leaves r (after bits words slots) ≡ carried (before bits words slots) (planSlot c (before bits words slots) b) ⌝ }
+    ensures hinted { λ r. ⌜ Hints c (after bits words slots) (now (hints .exit)) ⌝ }
 {
     let s = reserve::lowest_free(slots, g, b, n);
     blocks::put_slot(bits, words, slots, g, s, true);
@@ -141,7 +144,8 @@ fn carry_out(
     requires sound { ⌜ admitOf c (lent bits words slots) ≡ 0 ⌝ }
     requires hinted { ⌜ Hints c (lent bits words slots) (now hints) ⌝ }
     requires planned { ⌜ IsPlan c (lent bits words slots) x ⌝ }
-    ensures { λ r. ⌜ (leaves r (after bits words slots) ≡ carried (before bits words slots) x) × (Hints c (after bits words slots) (now (hints .exit))) ⌝ }
+    ensures given { λ r. ⌜ leaves r (after bits words slots) ≡ carried (before bits words slots) x ⌝ }
+    ensures hinted { λ r. ⌜ Hints c (after bits words slots) (now (hints .exit)) ⌝ }
 {
     reserve::perform_plan(c, bits, words, slots, x);
     let bytes = note_plan(slots, hints, x);
@@ -158,7 +162,8 @@ pub fn reserve_hinted(
     hints: &mut [u64],
 ) -> reserve::Reserved
     requires { ⌜ (admitOf c (lent bits words slots) ≡ 0) × (Hints c (lent bits words slots) (now hints)) ⌝ }
-    ensures { λ r. ⌜ (leaves r (after bits words slots) ≡ attempt c (before bits words slots) n) × (Hints c (after bits words slots) (now (hints .exit))) ⌝ }
+    ensures given { λ r. ⌜ leaves r (after bits words slots) ≡ attempt c (before bits words slots) n ⌝ }
+    ensures hinted { λ r. ⌜ Hints c (after bits words slots) (now (hints .exit)) ⌝ }
 {
     if n <= 3072 {
         let b = classes::class_of(n as usize);
@@ -231,7 +236,8 @@ pub fn release_hinted(
     hints: &mut [u64],
 ) -> u64
     requires { ⌜ (admitOf c (lent bits words slots) ≡ 0) × (Hints c (lent bits words slots) (now hints)) ⌝ }
-    ensures { λ r. ⌜ (leaves r (after bits words slots) ≡ give c (before bits words slots) q) × (Hints c (after bits words slots) (now (hints .exit))) ⌝ }
+    ensures given { λ r. ⌜ leaves r (after bits words slots) ≡ give c (before bits words slots) q ⌝ }
+    ensures hinted { λ r. ⌜ Hints c (after bits words slots) (now (hints .exit)) ⌝ }
 {
     let x = spot_hinted(c, bits, words, slots, q, hints);
     note_spot(hints, x);

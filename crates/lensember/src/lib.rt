@@ -255,7 +255,8 @@ pub extern "C" fn lensember_lines(
     log: &[u8],
     out: &mut [u8],
 ) -> lines::Printed
-    ensures { λ r. ⌜ leaves r (after bits words slots, now (out .exit)) ≡ printedOf c (before bits words slots) (now (log .entry)) (now (out .entry)) ⌝ }
+    ensures { λ r. ⌜ leaves r (after bits words slots, now (out .exit))
+        ≡ printedOf c (before bits words slots) (now (log .entry)) (now (out .entry)) ⌝ }
 {
     lines::lines(c, bits, words, slots, log, out)
 }
