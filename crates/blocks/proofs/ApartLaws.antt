@@ -1,11 +1,13 @@
--- The live blocks of a good pool lie apart, inside the pool and off page 0 of each chunk. Assumes nothing.
-use mathlib.Core.Path.{_≡_, sym, ap, subst}
+-- The live blocks are the large runs and the taken slots; those of a good pool lie apart, inside the pool and off page 0 of each chunk.
+-- Assumes nothing.
+use mathlib.Core.Path.{_≡_, refl, sym, ap, subst}
 use mathlib.Core.Logic.{_≢_, ⊎-elim}
 use mathlib.Core.Bool.{Bool, true, false, false≢true}
 use mathlib.Core.Option.{some, Option·none-ne-some}
-use mathlib.Core.List.{List, [], _∷_, _++_, List·Memᴰ, List·Memᴰ·not-nil, List·Memᴰ·append-cases, List·Memᴰ·eq-of-singleton}
+use mathlib.Core.List.{List, [], _∷_, _++_, List·Memᴰ, List·Memᴰ·head, List·Memᴰ·not-nil, Memᴰ·append-left, Memᴰ·append-right, List·Memᴰ·append-cases, List·Memᴰ·eq-of-singleton}
 use Prim.Native.Nat.{ℕ, zero, suc, _+_, _*_, _/_, _%_, _≤_, _<_}
 use native.Mathlib.Nat.{le-refl, le-trans, mul-le-mul-right}
+use native.Mathlib.Decide.{ℕ-discrete}
 use native.Mathlib.Omega.{arith}
 use lib.ListN.{length}
 use Rattle.classes.specs.Classes.{size, slots}
@@ -17,7 +19,7 @@ use Rattle.records.specs.Pool.{Pool, kindAt, slotAt}
 use Rattle.records.specs.Sound.{step}
 use Rattle.records.proofs.WalkLaws.{walk, walk-next, sound-walks, step-inner}
 use Rattle.records.proofs.RunLaws.{begins-run, sound-runs}
-use Rattle.blocks.specs.Blocks.{Block, slotBlock, flat, when, blocksAt, live, pageBlocks, Ins, here, there, Rising, stop, next}
+use Rattle.blocks.specs.Blocks.{Block, slotBlock, runBlock, IsLive, run, slot, flat, when, blocksAt, live, pageBlocks, Ins, here, there, Rising, stop, next}
 use Rattle.blocks.specs.Stores.{Good}
 
 -- ---- rising lists
@@ -104,7 +106,7 @@ pub live-inside : (c : ℕ) (p : Pool) → Good c p → {b : Block} {l : List Bl
     → (0 < b .size) × (b .place + b .size ≤ 2097152 * c)
 live-inside c p h i = rising-one (live-rising c p h) i
 
--- ---- off page 0
+-- ---- the list holds the large runs and the taken slots
 
 flat-from : {b : Block} (f : ℕ → List Block) (i n : ℕ) → List·Memᴰ b (flat f i n)
     → (j : ℕ) × (i ≤ j) × (j < i + n) × List·Memᴰ b (f j)
@@ -114,9 +116,50 @@ flat-from f i (suc n) m =
     ⊎-elim (λ x. (i, omega arith, omega arith, x))
     (λ x. let (j, a, l, y) = flat-from f (suc i) n x in (j, omega arith, omega arith, y)) (List·Memᴰ·append-cases (f i) m)
 
-when-from : {b : Block} (v : Bool) (x : Block) → List·Memᴰ b (when v x) → b ≡ x
-when-from true x m = List·Memᴰ·eq-of-singleton m
+flat-to : {b : Block} (f : ℕ → List Block) (i n j : ℕ) → i ≤ j → j < i + n → List·Memᴰ b (f j) → List·Memᴰ b (flat f i n)
+unfolding flat
+flat-to f i zero j a l m = absurd (omega arith)
+flat-to {b} f i (suc n) j a l m = go (ℕ-discrete i j) (flat-to f (suc i) n j)
+  where
+    go : Dec (i ≡ j) → (suc i ≤ j → j < suc i + n → List·Memᴰ b (f j) → List·Memᴰ b (flat f (suc i) n)) → List·Memᴰ b (f i ++ flat f (suc i) n)
+    go (yes e) later = Memᴰ·append-left (flat f (suc i) n) (subst (λ (k : ℕ). List·Memᴰ b (f k)) (sym e) m)
+    go (no e) later = Memᴰ·append-right (f i) (later (omega arith) (omega arith) m)
+
+when-from : {b : Block} (v : Bool) (x : Block) → List·Memᴰ b (when v x) → (v ≡ true) × (b ≡ x)
+when-from true x m = (refl, List·Memᴰ·eq-of-singleton m)
 when-from false x m = absurd (List·Memᴰ·not-nil m)
+
+module _ (c : ℕ) (p : Pool) where
+  -- by what page g begins
+  page-is : {b : Block} (g : ℕ) → g < 512 * c → (k : Kind) → kindAt p g ≡ k → List·Memᴰ b (blocksAt g k (slotAt p g)) → IsLive c p b
+  page-is g l Edge e m = absurd (List·Memᴰ·not-nil m)
+  page-is g l Free e m = absurd (List·Memᴰ·not-nil m)
+  page-is g l Damaged e m = absurd (List·Memᴰ·not-nil m)
+  page-is g l (Large k) e m = subst (IsLive c p) (sym (List·Memᴰ·eq-of-singleton m)) (run g k (record { inside = l; kind = e }))
+  page-is g l (Class a) e m =
+      let (s, x, n, y) = flat-from (λ s. when (slotAt p g s) (slotBlock g a s)) 0 (slots a) m in
+      let (taken, is) = when-from (slotAt p g s) (slotBlock g a s) y in
+      subst (IsLive c p) (sym is) (slot g a s (record { inside = l; kind = e; slot = omega arith; bit = taken }))
+  page-is g l (Inner w) e m = absurd (List·Memᴰ·not-nil m)
+
+  pub live-is : {b : Block} → List·Memᴰ b (live c p) → IsLive c p b
+  unfolding live pageBlocks
+  live-is m =
+      let (g, a, l, n) = flat-from (λ g. blocksAt g (kindAt p g) (slotAt p g)) 0 (512 * c) m in
+      page-is g (omega arith) (kindAt p g) refl n
+
+  pub is-live : {b : Block} → IsLive c p b → List·Memᴰ b (live c p)
+  unfolding live pageBlocks
+  is-live (run g k r) =
+      flat-to (λ g. blocksAt g (kindAt p g) (slotAt p g)) 0 (512 * c) g (omega arith) (omega (arith, r .inside))
+      (subst (λ (x : Kind). List·Memᴰ (runBlock g k) (blocksAt g x (slotAt p g))) (sym (r .kind)) (List·Memᴰ·head refl))
+  is-live (slot g b s r) =
+      flat-to (λ g. blocksAt g (kindAt p g) (slotAt p g)) 0 (512 * c) g (omega arith) (omega (arith, r .inside))
+      (subst (λ (x : Kind). List·Memᴰ (slotBlock g b s) (blocksAt g x (slotAt p g))) (sym (r .kind))
+      (flat-to (λ s. when (slotAt p g s) (slotBlock g b s)) 0 (slots b) s (omega arith) (omega (arith, r .slot))
+      (subst (λ (v : Bool). List·Memᴰ (slotBlock g b s) (when v (slotBlock g b s))) (sym (r .bit)) (List·Memᴰ·head refl))))
+
+-- ---- off page 0
 
 -- the block b lies in the n pages from page g on
 record Within (b : Block) (g n : ℕ) : Type 0 where
@@ -135,7 +178,7 @@ run-within g (Large k) t m =
     subst (λ (x : Block). Within x g (suc k)) (sym (List·Memᴰ·eq-of-singleton m)) (record { low = omega arith; high = omega arith })
 run-within g (Class a) t m =
     let (s, x, l, y) = flat-from (λ s. when (t s) (slotBlock g a s)) 0 (slots a) m in
-    subst (λ (x : Block). Within x g (suc (behind a))) (sym (when-from (t s) (slotBlock g a s) y)) (slot-within g a s (omega arith))
+    subst (λ (x : Block). Within x g (suc (behind a))) (sym (when-from (t s) (slotBlock g a s) y .1)) (slot-within g a s (omega arith))
 run-within g (Inner w) t m = absurd (List·Memᴰ·not-nil m)
 
 pub live-off : (c : ℕ) (p : Pool) → Good c p → (b : Block) → List·Memᴰ b (live c p)

@@ -24,7 +24,7 @@ use Rattle.records.proofs.WalkLaws.{walk, walk-next, Sound, sound-walks, walk-f
 use Rattle.records.proofs.RunLaws.{Mid, mid-off, walk-run}
 use Rattle.records.proofs.FreshLaws.{fresh-edge, fresh-free, fresh-sound, fresh-fit, fresh-served}
 use Rattle.records.proofs.AdmitLaws.{Shape, shaped-lengths, lengths-shaped, admit-fit, admitted}
-use Rattle.blocks.specs.Blocks.{Block, slotBlock, runBlock, when, blocksAt, live, pageBlocks, Ins, here}
+use Rattle.blocks.specs.Blocks.{Block, slotBlock, runBlock, IsSlot, IsLarge, when, blocksAt, live, pageBlocks, Ins, here}
 use Rattle.blocks.specs.Stores.{putRun, putSlot, Good, Gains, Loses}
 use Rattle.blocks.proofs.FlatLaws.{flat-nil}
 use Rattle.blocks.proofs.StoreLaws.{free-off, run-fit, run-slots, run-out, run-in, slot-fit, slot-kinds, slot-same, slot-other}
@@ -140,48 +140,49 @@ module _ (c : ℕ) (p : Pool) (h : Good c p) where
       (kind-large (largeWord (suc k)) (omega arith) (omega arith) ∙ ap Large (omega arith))
       (λ i x. kind-zero (getD (zeros k) i 0) (getD-zeros k i)) fits were
 
-  pub free-large : (g k : ℕ) → g < 512 * c → kindAt p g ≡ Large k → RunFlip c (putRun 0 p g (zeros (suc k))) p g k (Large k) (zeros k)
-  free-large g k l e = give-run g k (Large k) (zeros k) refl (large-begins k) (length-zeros k) tt l e (idle-at g l (ap slotsOf e))
+  pub free-large : (g k : ℕ) → IsLarge c p g k → RunFlip c (putRun 0 p g (zeros (suc k))) p g k (Large k) (zeros k)
+  free-large g k r =
+      give-run g k (Large k) (zeros k) refl (large-begins k) (length-zeros k) tt (r .inside) (r .kind) (idle-at g (r .inside) (ap slotsOf (r .kind)))
 
   pub put-large : (g k : ℕ) → k < 511 → g + suc k ≤ 512 * c → ((i : ℕ) → g ≤ i → i < g + suc k → kindAt p i ≡ Free)
       → Gains c p (putRun 1 p g (wordsOf (Large k))) (runBlock g k)
   put-large g k l fits were = let f = take-large g k l fits were in gains (run-alike f) (run-ins f (runBlock g k) here) h
 
-  pub give-large : (g k : ℕ) → g < 512 * c → kindAt p g ≡ Large k → Loses c p (putRun 0 p g (zeros (suc k))) (runBlock g k)
-  give-large g k l e = let f = free-large g k l e in loses (run-alike f) (run-ins f (runBlock g k) here) h
+  pub give-large : (g k : ℕ) → IsLarge c p g k → Loses c p (putRun 0 p g (zeros (suc k))) (runBlock g k)
+  give-large g k r = let f = free-large g k r in loses (run-alike f) (run-ins f (runBlock g k) here) h
 
   -- ---- slots
 
-  pub put-slot : (g b s : ℕ) → g < 512 * c → kindAt p g ≡ Class b → s < slots b → slotAt p g s ≡ false
-      → Gains c p (putSlot 1 p g s) (slotBlock g b s)
-  put-slot g b s l e n z =
+  pub put-slot : (g b s : ℕ) → IsSlot c p g b s false → Gains c p (putSlot 1 p g s) (slotBlock g b s)
+  put-slot g b s x =
+      let l = x .inside in let n = x .slot in
       let few = any-row b .slots-most in
       let f : SlotFlip c p (putSlot 1 p g s) g b s =
       record {
         shape = slot-fit c 1 p g s;
         inside = l;
-        run = e;
+        run = x .kind;
         slot = n;
         kinds = λ i. sym (slot-kinds c 1 p g s i);
-        was = z;
+        was = x .bit;
         now = slot-same c 1 p g s (omega arith) shape l (omega arith);
         others = λ i j d. sym (slot-other c 1 p g s (omega arith) shape l (omega arith) i j d);
       } in
       gains (slot-alike f) (slot-ins f) h
 
-  pub give-slot : (g b s : ℕ) → g < 512 * c → kindAt p g ≡ Class b → s < slots b → slotAt p g s ≡ true
-      → Loses c p (putSlot 0 p g s) (slotBlock g b s)
-  give-slot g b s l e n z =
+  pub give-slot : (g b s : ℕ) → IsSlot c p g b s true → Loses c p (putSlot 0 p g s) (slotBlock g b s)
+  give-slot g b s x =
+      let l = x .inside in let n = x .slot in
       let few = any-row b .slots-most in
       let f : SlotFlip c (putSlot 0 p g s) p g b s =
       record {
         shape = sym (slot-fit c 0 p g s);
         inside = l;
-        run = slot-kinds c 0 p g s g ∙ e;
+        run = slot-kinds c 0 p g s g ∙ x .kind;
         slot = n;
         kinds = slot-kinds c 0 p g s;
         was = slot-same c 0 p g s (omega arith) shape l (omega arith);
-        now = z;
+        now = x .bit;
         others = slot-other c 0 p g s (omega arith) shape l (omega arith);
       } in
       loses (slot-alike f) (slot-ins f) h
@@ -208,7 +209,8 @@ put-class c p h g b l fits were =
     run-same f (flat-nil (λ s. when (slotAt q g s) (slotBlock g b s)) 0 (slots b)
     (λ s x y. ap (λ (t : Bool). when t (slotBlock g b s)) (none s (omega arith)))) in
     let r =
-    put-slot c q (alike-good (run-alike f) h) g b 0 (omega arith) (f .first) (omega (arith, row-facts b l .slots-least)) (none 0 (omega arith)) in
+    put-slot c q (alike-good (run-alike f) h) g b 0
+    (record { inside = omega arith; kind = f .first; slot = omega (arith, row-facts b l .slots-least); bit = none 0 (omega arith) }) in
     record { good = r .good; more = subst (λ (x : List Block). Ins (slotBlock g b 0) x (live c (putSlot 1 q g 0))) (sym same) (r .more) }
 
 -- ---- fresh records

@@ -1,11 +1,13 @@
 -- The live blocks of a pool, as one list by rising place: what next, census and totals read, and what the book is compared with.
 -- Assumes nothing.
+use mathlib.Core.Path.{_≡_}
 use mathlib.Core.Bool.{Bool, true, false}
 use mathlib.Core.List.{List, [], _∷_, _++_}
 use Prim.Native.Nat.{ℕ, zero, suc, _+_, _*_, _≤_, _<_}
 use Rattle.records.specs.Kinds.{begins}
 use Rattle.classes.specs.Classes.{size, slots}
 use Rattle.records.specs.declared.Kind.{Kind}
+use Rattle.records.specs.declared.Kind.the-variants.{Large, Class}
 use Rattle.records.specs.Pool.{Pool, kindAt, slotAt}
 
 -- a block: its place and the size that was given
@@ -23,6 +25,27 @@ slotBlock g b s = block (4096 * g + s * size b) (size b)
 -- a large run that starts at page g and has k pages behind its first
 abbrev pub runBlock : ℕ → ℕ → Block
 runBlock g k = block (4096 * g) (4096 * suc k)
+
+-- ---- what lies where
+
+-- slot s of the run of class b that starts at page g, taken or free
+pub record IsSlot (c : ℕ) (p : Pool) (g b s : ℕ) (taken : Bool) : Type 0 where
+  pub inside : g < 512 * c
+  pub kind : kindAt p g ≡ Class b
+  pub slot : s < slots b
+  pub bit : slotAt p g s ≡ taken
+
+-- the large run that starts at page g and has k pages behind its first
+pub record IsLarge (c : ℕ) (p : Pool) (g k : ℕ) : Type 0 where
+  pub inside : g < 512 * c
+  pub kind : kindAt p g ≡ Large k
+
+-- a live block: a large run or a taken slot (RULES 3.6)
+pub data IsLive (c : ℕ) (p : Pool) : Block → Type 0 where
+  run : (g k : ℕ) → IsLarge c p g k → IsLive c p (runBlock g k)
+  slot : (g b s : ℕ) → IsSlot c p g b s true → IsLive c p (slotBlock g b s)
+
+-- ---- all live blocks, as one list
 
 -- what f gives at n numbers from i on, one after the other
 unfoldable pub flat : (ℕ → List Block) → ℕ → ℕ → List Block

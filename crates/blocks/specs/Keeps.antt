@@ -4,12 +4,11 @@ use mathlib.Core.Path.{_≡_}
 use mathlib.Core.Bool.{true, false}
 use mathlib.Core.List.{[]}
 use Prim.Native.Nat.{ℕ, suc, _+_, _*_, _≤_, _<_}
-use Rattle.classes.specs.Classes.{slots}
 use Rattle.records.specs.declared.Kind.the-variants.{Free, Large, Class}
 use Rattle.records.specs.Kinds.{zeros, behind, wordsOf}
-use Rattle.records.specs.Pool.{Pool, kindAt, slotAt}
+use Rattle.records.specs.Pool.{Pool, kindAt}
 use Rattle.records.specs.Calls.{freshPool}
-use Rattle.blocks.specs.Blocks.{slotBlock, runBlock, live}
+use Rattle.blocks.specs.Blocks.{slotBlock, runBlock, IsSlot, IsLarge, live}
 use Rattle.blocks.specs.Stores.{putRun, putSlot, Good, Gains, Loses}
 
 pub record Keeps : Type 0 where
@@ -17,13 +16,13 @@ pub record Keeps : Type 0 where
   pub put-large : (c : ℕ) (p : Pool) → Good c p → (g k : ℕ) → k < 511 → g + suc k ≤ 512 * c
       → ((i : ℕ) → g ≤ i → i < g + suc k → kindAt p i ≡ Free) → Gains c p (putRun 1 p g (wordsOf (Large k))) (runBlock g k)
   -- a large run is freed
-  pub give-large : (c : ℕ) (p : Pool) → Good c p → (g k : ℕ) → g < 512 * c → kindAt p g ≡ Large k
+  pub give-large : (c : ℕ) (p : Pool) → Good c p → (g k : ℕ) → IsLarge c p g k
       → Loses c p (putRun 0 p g (zeros (suc k))) (runBlock g k)
   -- a free slot is taken
-  pub put-slot : (c : ℕ) (p : Pool) → Good c p → (g b s : ℕ) → g < 512 * c → kindAt p g ≡ Class b → s < slots b → slotAt p g s ≡ false
+  pub put-slot : (c : ℕ) (p : Pool) → Good c p → (g b s : ℕ) → IsSlot c p g b s false
       → Gains c p (putSlot 1 p g s) (slotBlock g b s)
   -- a taken slot is freed
-  pub give-slot : (c : ℕ) (p : Pool) → Good c p → (g b s : ℕ) → g < 512 * c → kindAt p g ≡ Class b → s < slots b → slotAt p g s ≡ true
+  pub give-slot : (c : ℕ) (p : Pool) → Good c p → (g b s : ℕ) → IsSlot c p g b s true
       → Loses c p (putSlot 0 p g s) (slotBlock g b s)
   -- a run of a class is written on free pages, and its slot 0 is taken
   pub put-class : (c : ℕ) (p : Pool) → Good c p → (g b : ℕ) → b < 30 → g + suc (behind b) ≤ 512 * c

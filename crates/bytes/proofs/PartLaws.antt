@@ -1,8 +1,8 @@
 -- The part of a block, and the arena that it lies in. Assumes nothing.
 use mathlib.Core.Path.{_≡_, refl, sym, ap, ap₂, _∙_, subst}
-use mathlib.Core.Logic.{_≢_, _↔_, by-cases}
+use mathlib.Core.Logic.{_≢_, by-cases}
 use mathlib.Core.Bool.{Bool, true, false, cond, _&&_}
-use mathlib.Core.List.{List, []}
+use mathlib.Core.List.{List}
 use Prim.Native.Nat.{ℕ, zero, suc, _+_, _-_, _*_, _/_, _%_, _≤_, _<_}
 use native.Mathlib.Nat.{add-sub-cancel-left}
 use native.Mathlib.Decide.{ℕ-discrete}
@@ -11,15 +11,15 @@ use lib.Dec.{eqb, leb}
 use lib.ListN.{length, take, drop, length-drop}
 use lib.Seq.{length-take-le}
 use borrow.Author.Tests.{eq-eqb, ne-eqb, eqb-true, le-leb, lt-leb}
-use Rattle.refusals.specs.Refusals.{shape}
+use Rattle.refusals.specs.Refusals.{unless, shape}
 use Rattle.records.specs.Pool.{Pool}
+use Rattle.records.specs.Calls.{admitOf}
 use Rattle.records.proofs.Flags.{flag-eq, eq-cases, cond-eq, cond-ne, and-right}
 use Rattle.release.specs.declared.Sized.{Sized}
-use Rattle.release.specs.Release.{sizeOf}
+use Rattle.release.specs.Release.{spot, sized, sizeAt, sizeOf}
 use Rattle.release.proofs.MeanLaws.{size-inside}
 use Rattle.bytes.specs.declared.Part.{Part}
 use Rattle.bytes.specs.Bytes.{chosen, earFits, part, partAt, partOf, bytesOf, bytesRefusalOf}
-use Rattle.bytes.specs.Means.{BytesMean}
 
 -- ---- the chosen arena
 
@@ -97,6 +97,29 @@ module _ (ear c : ℕ) (p : Pool) (q nleft nright : ℕ) where
           (λ z. none-in c p q (chosen ear nleft nright) (sizeOf c p q .refusal) z)
       go false e = none 0
 
+-- ---- a refusal
+
+in-none : {c : ℕ} {p : Pool} {q n : ℕ} {x : Part} (r : ℕ) → In c p q n x → x .refusal ≡ suc r → x ≡ part (suc r) 0 0
+in-none r (given z h) e = absurd (omega arith)
+in-none r (none s) e = ap (λ (k : ℕ). part k 0 0) e
+
+module _ (ear c : ℕ) (p : Pool) (q nleft nright r : ℕ) where
+  pub part-kept : partOf ear c p q nleft nright .refusal ≡ suc r → partOf ear c p q nleft nright ≡ part (suc r) 0 0
+  part-kept e = in-none r (part-in ear c p q nleft nright) e
+
+  -- ear and arena come first, then the records
+  pub part-checked : cond (earFits ear c (chosen ear nleft nright)) (admitOf c p) shape ≡ suc r → partOf ear c p q nleft nright ≡ part (suc r) 0 0
+  unfolding partOf sizeOf
+  part-checked e = go (earFits ear c (chosen ear nleft nright)) (admitOf c p) e
+    where
+      go : (v : Bool) (a : ℕ) → cond v a shape ≡ suc r
+          → cond v (partAt q (unless a (λ r. sized r 0) (sizeAt (spot c p q)))) (part shape 0 0) ≡ part (suc r) 0 0
+      go true zero f = absurd (omega arith)
+      go true (suc a) f = cond-ne (suc a) 0 (part 0 q 0) (part (suc a) 0 0) (omega arith) ∙ ap (λ (k : ℕ). part k 0 0) f
+      go false a f = ap (λ (k : ℕ). part k 0 0) f
+
+-- ---- inside the arena
+
 in-ends : {c : ℕ} {p : Pool} {q n : ℕ} {x : Part} → In c p q n x → x .start + x .size ≤ n
 in-ends (given z h) = h
 in-ends (none r) = omega arith
@@ -136,48 +159,37 @@ module _ (ear c : ℕ) (p : Pool) (q : ℕ) (left right : List ℕ) {x : Part} (
 
 -- ---- what the part is
 
--- the bytes that a part names in a list of n bytes
-module _ {c : ℕ} {p : Pool} {q n : ℕ} (l : List ℕ) (m : length l ≡ n) where
-  cut-long : {x : Part} → In c p q n x → length (take (x .size) (drop (x .start) l)) ≡ x .size
-  cut-long {x = x} i =
-      let h = in-ends i in
-      let d = length-drop (x .start) l in length-take-le (x .size) (drop (x .start) l) (omega arith)
-
-  cut-served : {x : Part} → In c p q n x → x .refusal ≡ 0 → (x .size ≡ sizeOf c p q .size) × (q + sizeOf c p q .size ≤ n)
-  cut-served (given z h) e = (refl, h)
-  cut-served (none r) e = absurd (omega arith)
-
-  cut-empty : {x : Part} → In c p q n x → take (x .size) (drop (x .start) l) ≡ [] → 0 < x .refusal
-  cut-empty (given z h) e =
-      let a = cut-long (given z h) in
-      let b : length (take (sizeOf c p q .size) (drop q l)) ≡ 0 = ap length e in absurd (omega arith)
-  cut-empty (none r) e = omega arith
-
-  cut-refused : {x : Part} → In c p q n x → 0 < x .refusal → take (x .size) (drop (x .start) l) ≡ []
-  cut-refused (given z h) e = absurd (omega arith)
-  cut-refused (none r) e = refl
-
 module _ (ear c : ℕ) (p : Pool) (q : ℕ) (left right : List ℕ) where
-  long : length (chosen ear left right) ≡ chosen ear (length left) (length right)
-  long = go (eqb ear 0)
+  chosen-long : length (chosen ear left right) ≡ chosen ear (length left) (length right)
+  chosen-long = go (eqb ear 0)
     where
       go : (v : Bool) → length (cond v left right) ≡ cond v (length left) (length right)
       go true = refl
       go false = refl
 
-  inside : In c p q (chosen ear (length left) (length right)) (partOf ear c p q (length left) (length right))
-  inside = part-in ear c p q (length left) (length right)
+  -- all bytes of a part are there
+  part-long : {x : Part} → x ≡ partOf ear c p q (length left) (length right)
+      → length (take (x .size) (drop (x .start) (chosen ear left right))) ≡ x .size
+  part-long {x} e =
+      let h = ends ear c p q (length left) (length right) e in
+      let n = chosen-long in
+      let d = length-drop (x .start) (chosen ear left right) in length-take-le (x .size) (drop (x .start) (chosen ear left right)) (omega arith)
 
-  served : bytesRefusalOf ear c p q left right ≡ 0
-      → (length (bytesOf ear c p q left right) ≡ sizeOf c p q .size) × (q + sizeOf c p q .size ≤ length (chosen ear left right))
-  unfolding bytesOf bytesRefusalOf
-  served e =
-      let (a, b) = cut-served (chosen ear left right) long inside e in
-      (cut-long (chosen ear left right) long inside ∙ a, subst (λ (n : ℕ). q + sizeOf c p q .size ≤ n) (sym long) b)
+  module _ (fits : earFits ear c (chosen ear (length left) (length right)) ≡ true) where
+    -- a block of z bytes at the place
+    pub bytes-cut : (z : ℕ) → sizeOf c p q ≡ sized 0 z
+        → (bytesRefusalOf ear c p q left right ≡ 0)
+        × (bytesOf ear c p q left right ≡ take z (drop q (chosen ear left right)))
+        × (length (bytesOf ear c p q left right) ≡ z)
+    unfolding bytesOf bytesRefusalOf
+    bytes-cut z e =
+        let is = part-served ear c p q (length left) (length right) (sym fits) refl (sym e) refl in
+        let cut = ap (λ (x : Part). take (x .size) (drop (x .start) (chosen ear left right))) (sym is) in
+        (ap (λ (x : Part). x .refusal) (sym is), cut, ap length cut ∙ part-long is)
 
-  empty : (bytesOf ear c p q left right ≡ []) ↔ (0 < bytesRefusalOf ear c p q left right)
-  unfolding bytesOf bytesRefusalOf
-  empty = (cut-empty (chosen ear left right) long inside, cut-refused (chosen ear left right) long inside)
-
-pub bytes-mean : BytesMean
-bytes-mean = record { served = served; empty = empty }
+    -- none
+    pub bytes-none : (r : ℕ) → sizeOf c p q ≡ sized (suc r) 0 → bytesRefusalOf ear c p q left right ≡ suc r
+    unfolding bytesRefusalOf
+    bytes-none r e =
+        ap (λ (x : Part). x .refusal)
+        (sym (part-refused ear c p q (length left) (length right) {s = sized (suc r) 0} (sym fits) refl (sym e) (omega arith)))

@@ -5,7 +5,6 @@ ghost use Prim.Native.Nat.{_*_};
 ghost use lib.Dec.{eqb};
 ghost use Rattle.records.specs.Lent.{before};
 ghost use Rattle.bytes.specs.Bytes.{chosen, earFits, partOf, bytesOf, bytesRefusalOf};
-ghost use Rattle.bytes.specs.Means.{BytesMean};
 
 // A part of the chosen arena: where it starts and how long it is, or a refusal and nothing. C reads it as it is.
 #[repr(C)]
@@ -118,11 +117,4 @@ pub fn bytes_refusal(
 {
     let x = part_of(ear, c, bits, words, slots, q, left.len(), right.len());
     x.refusal
-}
-
-// What the part of a block is.
-pub fn bytes_mean() -> bool
-    ensures { λ r. ⌜ BytesMean ⌝ }
-{
-    true
 }

@@ -2,14 +2,14 @@
 use mathlib.Core.Path.{_≡_, refl, sym, ap, ap₂, _∙_}
 use mathlib.Core.Logic.{by-cases}
 use mathlib.Core.Bool.{true}
-use mathlib.Core.List.{List}
-use Prim.Native.Nat.{ℕ, zero, suc, _*_, _/_, _≤_, _<_}
+use mathlib.Core.List.{List, _++_}
+use Prim.Native.Nat.{ℕ, suc, _*_, _/_, _≤_, _<_}
 use native.Mathlib.Decide.{decLt}
 use native.Mathlib.Omega.{arith}
-use lib.ListN.{length}
+use lib.ListN.{length, drop}
 use lib.Seq.{sets}
-use Rattle.refusals.proofs.CallLaws.{refused, served}
-use Rattle.refusals.specs.Refusals.{unless, shortRoom}
+use Rattle.refusals.proofs.CallLaws.{served}
+use Rattle.refusals.specs.Refusals.{shortRoom}
 use Rattle.records.specs.Pool.{Pool}
 use Rattle.records.specs.Calls.{admitOf, Left, leaves}
 use Rattle.records.proofs.Flags.{cond-lt, cond-nlt}
@@ -18,7 +18,6 @@ use Rattle.blocks.specs.Blocks.{live}
 use Rattle.blocks.specs.Stores.{Good}
 use Rattle.census.specs.declared.Counted.{Counted}
 use Rattle.census.specs.Census.{wordsFor, counted, list, censusOf}
-use Rattle.census.specs.Means.{CensusMeans}
 use Rattle.census.proofs.WriteLaws.{words-behind}
 
 -- ---- the work on sound records
@@ -54,27 +53,17 @@ module _ (c : ℕ) (p : Pool) (room : List ℕ) where
   good-work : Good c p → list c p room ≡ censusOf c p room
   good-work h = census-served c p room 0 (admit-fit c p (h .shape) true (sym (h .whole))) refl refl
 
-  work-kept : (r : ℕ) → list c p room .answer .refusal ≡ suc r → list c p room ≡ leaves (counted (suc r) 0) room
-  work-kept r e =
+  pub list-kept : (r : ℕ) → list c p room .answer .refusal ≡ suc r → list c p room ≡ leaves (counted (suc r) 0) room
+  list-kept r e =
       by-cases (decLt (length room) (2 * length (live c p)))
       (λ h. let x = list-short c p room h in let y : 7 ≡ suc r = ap (λ (z : Left Counted (List ℕ)). z .answer .refusal) x ∙ e in sym x ∙ ap (λ (k : ℕ). leaves (counted k 0) room) y)
       (λ h. let y : 0 ≡ suc r = ap (λ (z : Left Counted (List ℕ)). z .answer .refusal) (list-long c p room (omega arith)) ∙ e in absurd (omega arith))
 
-  call-kept : (r : ℕ) → censusOf c p room .answer .refusal ≡ suc r → censusOf c p room ≡ leaves (counted (suc r) 0) room
-  unfolding censusOf
-  call-kept r e = go (admitOf c p) e
-    where
-      go : (m : ℕ) → unless m (λ r. leaves (counted r 0) room) (list c p room) .answer .refusal ≡ suc r
-          → unless m (λ r. leaves (counted r 0) room) (list c p room) ≡ leaves (counted (suc r) 0) room
-      go zero f = work-kept r f
-      go (suc m) f = ap (λ (k : ℕ). leaves (counted k 0) room) f
+  -- on sound records, with room for two words a live block
+  pub census-lists : Good c p → 2 * length (live c p) ≤ length room
+      → censusOf c p room ≡ leaves (counted 0 (length (live c p))) (wordsFor (live c p) ++ drop (2 * length (live c p)) room)
+  census-lists h l = sym (good-work h) ∙ sym (list-long c p room l) ∙ ap (leaves (counted 0 (length (live c p)))) (words-behind room (live c p) l)
 
-pub census-means : CensusMeans
-census-means =
-    record {
-      served = λ c p room h l.
-          sym (good-work c p room h) ∙ sym (list-long c p room l)
-          ∙ ap (leaves (counted 0 (length (live c p)))) (words-behind room (live c p) l);
-      short = λ c p room h l. sym (good-work c p room h) ∙ sym (list-short c p room l);
-      refused = call-kept;
-    }
+  -- with less
+  pub census-short : Good c p → length room < 2 * length (live c p) → censusOf c p room ≡ leaves (counted shortRoom 0) room
+  census-short h l = sym (good-work h) ∙ sym (list-short c p room l)

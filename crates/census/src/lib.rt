@@ -12,7 +12,6 @@ ghost use Rattle.records.specs.Calls.{admitOf, leaves};
 ghost use Rattle.blocks.specs.Blocks.{block, pageBlocks, live};
 ghost use Rattle.census.specs.Census.{wordsFor, list};
 ghost use Rattle.census.specs.Writes.{slotBlocks, NextTaken, Wrote};
-ghost use Rattle.census.specs.Means.{CensusMeans};
 
 // The answer of a census; C reads it as it is.
 #[repr(C)]
@@ -122,11 +121,4 @@ pub fn census_sound(c: u64, bits: &[u64], words: &[u32], slots: &[u64], room: &m
         refusal: 0,
         count: widths::wide64(n),
     }
-}
-
-// What a census leaves in the room.
-pub fn census_means() -> bool
-    ensures { λ r. ⌜ CensusMeans ⌝ }
-{
-    true
 }

@@ -1,6 +1,6 @@
 -- Laws of the size classes, for the proofs of their callers.
 -- Assumes nothing.
-use mathlib.Core.Path.{_≡_, refl, ap, _∙_}
+use mathlib.Core.Path.{_≡_, refl, ap, _∙_, subst}
 use mathlib.Core.Logic.{by-cases}
 use mathlib.Core.Bool.{Bool, true, false, cond}
 use mathlib.Core.List.{List, [], _∷_}
@@ -14,7 +14,7 @@ use lib.Dec.{T, leb, ltb, leb→le, ltb→lt, lit<}
 use lib.Pow.{pow-mono}
 use lib.ListN.{length, getD, List·getD-eq-default}
 use Rattle.classes.specs.declared.Row.{Row}
-use Rattle.classes.specs.Classes.{rowOf, rows, rowAt, size, slots, pages, firstHolding, classFor, bitLength, calculated, tabled, RowFacts, Smallest}
+use Rattle.classes.specs.Classes.{rowOf, rows, rowAt, size, slots, pages, firstHolding, classFor, bitLength, calculated, tabled, RowFacts, Smallest, ClassesMean}
 use Rattle.classes.proofs.Entries.{every, at, same-at}
 
 -- ---- the 30 rows
@@ -172,6 +172,19 @@ class-smallest n h =
     let f = class-first n in
     let below : classFor n < 30 = by-cases (decLt (classFor n) 30) (λ l. l) (λ l. absurd (omega (arith, f .smaller 29 (omega arith)))) in
     record { class = below; holds = f .holds (classFor n) (omega arith) below; smaller = λ a l. f .smaller a (omega arith) }
+
+-- there is one such class
+pub smallest-once : (n a b : ℕ) → Smallest n a → Smallest n b → a ≡ b
+smallest-once n a b x y =
+    by-cases (decLt a b) (λ l. absurd (omega (arith, y .smaller a l, x .holds)))
+    (λ l. by-cases (decLt b a) (λ k. absurd (omega (arith, x .smaller b k, y .holds))) (λ k. omega arith))
+
+pub classes-mean : ClassesMean
+classes-mean =
+    record {
+      row = row-facts;
+      smallest = λ n b h. (smallest-once n (classFor n) b (class-smallest n h), λ e. subst (Smallest n) e (class-smallest n h));
+    }
 
 -- ---- the class by arithmetic
 

@@ -1,5 +1,7 @@
 -- The 30 size classes (RULES 2) and the class that serves a request.
 -- Assumes nothing.
+use mathlib.Core.Path.{_≡_}
+use mathlib.Core.Logic.{_↔_}
 use mathlib.Core.Bool.{cond}
 use mathlib.Core.List.{List, [], _∷_}
 use Prim.Native.Nat.{ℕ, zero, suc, _+_, _-_, _*_, _/_, _^_, _≤_, _<_}
@@ -100,3 +102,8 @@ pub record Smallest (n b : ℕ) : Type 0 where
   pub class : b < 30
   pub holds : n ≤ size b
   pub smaller : (a : ℕ) → a < b → size a < n
+
+-- The claim: what RULES 2 says of the rows and of the class of a request
+pub record ClassesMean : Type 0 where
+  pub row : (b : ℕ) → b < 30 → RowFacts (rowAt b)
+  pub smallest : (n b : ℕ) → n ≤ 3072 → Smallest n b ↔ (classFor n ≡ b)

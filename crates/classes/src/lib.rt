@@ -1,7 +1,7 @@
 // The 30 size classes, as constant rows, and the class that serves a request.
 ghost use mathlib.Core.Path.{_≡_};
 ghost use Prim.Native.Nat.{_<_, _≤_};
-ghost use Rattle.classes.specs.Classes.{rows, rowAt, classFor};
+ghost use Rattle.classes.specs.Classes.{rows, rowAt, classFor, ClassesMean};
 
 mod table;
 
@@ -198,4 +198,11 @@ pub fn class_of(size: usize) -> usize
     let length = 64 - usize::leading_zeros(last) as usize;
     let low = length - 3;
     (last >> low) + 4 * (low - 3)
+}
+
+// The rows and the class of a request are what RULES 2 says of them.
+pub fn classes_mean() -> bool
+    ensures { λ r. ⌜ ClassesMean ⌝ }
+{
+    true
 }

@@ -87,7 +87,7 @@ module _ (c : ℕ) (p : Pool) (ok : admitOf c p ≡ 0) where
       go : (y : Spot) → There c p q y → SpotNear y
       go (Nowhere r) k = tt
       go (Run g n) k = tt
-      go (Slot g b s) k = let h = admitted c p ok .shape in let i = k .inside in (omega arith, class-at-low p g b (k .kind))
+      go (Slot g b s) (k, _) = let h = admitted c p ok .shape in let i = k .inside in (omega arith, class-at-low p g b (k .kind))
 
 pub left-of : {A : Type 0} {a b : A} {p q : Pool} → leaves a p ≡ leaves b q → p ≡ q
 left-of {A} e = ap (λ (x : Left A Pool). x .left) e

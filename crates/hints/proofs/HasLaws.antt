@@ -38,7 +38,7 @@ has-too : (c : ℕ) (p q : Pool) (d i : ℕ) → i < 512 * c → kindAt p i ≡ 
 has-too c p q d i l k s e =
     let f = has-free c p d i l e in
     let m = any-row d .slots-most in let h = f .slot in
-    found-run q d i (lowestFree (p .slots) d i) (sym k ∙ f .kind) h (sym (s (lowestFree (p .slots) d i) (omega arith)) ∙ f .clear)
+    found-run q d i (lowestFree (p .slots) d i) (sym k ∙ f .kind) h (sym (s (lowestFree (p .slots) d i) (omega arith)) ∙ f .bit)
 
 has-same : (c : ℕ) (p q : Pool) (d i : ℕ) → i < 512 * c → kindAt p i ≡ kindAt q i → ((s : ℕ) → s < 512 → slotAt p i s ≡ slotAt q i s)
     → hasSlot p d i ≡ hasSlot q d i

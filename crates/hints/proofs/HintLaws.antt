@@ -24,6 +24,7 @@ use Rattle.records.proofs.AdmitLaws.{Shape, admitted, shaped-lengths}
 use Rattle.gaps.specs.declared.Found.{Found}
 use Rattle.gaps.specs.declared.Found.the-variants.{At, Nothing}
 use Rattle.gaps.specs.Gaps.{findPages}
+use Rattle.blocks.specs.Blocks.{IsSlot}
 use Rattle.blocks.specs.Stores.{putRun, putSlot}
 use Rattle.blocks.proofs.StoreLaws.{slot-kinds, slot-same}
 use Rattle.blocks.proofs.KeepLaws.{admit-good, take-large, free-large, take-class}
@@ -31,7 +32,7 @@ use Rattle.reserve.specs.declared.Reserved.{Reserved}
 use Rattle.reserve.specs.declared.Plan.{Plan}
 use Rattle.reserve.specs.declared.Plan.the-variants.{Refuse, TakeSlot, NewClass, NewLarge}
 use Rattle.reserve.specs.Reserve.{lowestFree, hasSlot, slotPage, ifFound, slotOrRun, planSlot, planRun, pagesFor, planLarge, plan, perform, slotGiven}
-use Rattle.reserve.specs.Plans.{SlotFree, PlanOk}
+use Rattle.reserve.specs.Plans.{PlanOk}
 use Rattle.reserve.proofs.PlanLaws.{free-first, searched, slot-ok, plan-in}
 use Rattle.reserve.proofs.MeanLaws.{found-run}
 use Rattle.reserve.proofs.AnswerForms.{plan-good}
@@ -144,7 +145,7 @@ module _ (c : ℕ) (p : Pool) (ok : admitOf c p ≡ 0) (l : List ℕ) (h : Hints
     planned : TakeSlot g b s ≡ planSlot c p b
     planned = plan-in c p b g s at gl e
 
-    free-here : SlotFree c p g b s
+    free-here : IsSlot c p g b s false
     free-here = subst (PlanOk c p) (sym planned) (slot-ok c p (admitted c p ok .whole) b bl)
 
     pub slot-room : (s < n) × (n ≤ 512) × (g < 8192) × (512 * g + 512 ≤ 64 * length (p .slots))
@@ -190,7 +191,7 @@ module _ (c : ℕ) (p : Pool) (ok : admitOf c p ≡ 0) (l : List ℕ) (h : Hints
   -- ---- what starts at a place is given back
 
   gave-slot : (q g b s : ℕ) → There c p q (Slot g b s) → Hints c (giveBack p (Slot g b s)) (notedSpot l (Slot g b s))
-  gave-slot q g b s k =
+  gave-slot q g b s (k, _) =
       let few = shape .few in let m = any-row b .slots-most in let t = k .slot in let i = k .inside in
       let bl = class-at-low p g b (k .kind) in
       let o = h .bound b bl in
@@ -202,8 +203,8 @@ module _ (c : ℕ) (p : Pool) (ok : admitOf c p ≡ 0) (l : List ℕ) (h : Hints
       (λ j x y. by-cases (ℕ-discrete j g) (λ e. omega arith) (λ e. let z = h .low b j bl x (others b j x (λ _. e) ∙ y) in omega arith))
 
   gave-run : (q g k : ℕ) → There c p q (Run g k) → Hints c (giveBack p (Run g k)) l
-  gave-run q g k r =
-      let f = free-large c p (admit-good c p ok) g k (r .inside) (r .kind) in same h (λ d j x. sym (run-has f d j x (λ _. refl)))
+  gave-run q g k (r, _) =
+      let f = free-large c p (admit-good c p ok) g k r in same h (λ d j x. sym (run-has f d j x (λ _. refl)))
 
   gave : (q : ℕ) (x : Spot) → There c p q x → Hints c (giveBack p x) (notedSpot l x)
   gave q (Nowhere r) k = h

@@ -5,13 +5,17 @@ use mathlib.Core.List.{List, [], _∷_, List·Memᴰ, List·Memᴰ·head, List·
 use Prim.Native.Nat.{ℕ, _+_, _*_, _≤_, _<_}
 use native.Mathlib.Decide.{decLe}
 use native.Mathlib.Omega.{arith}
+use Rattle.refusals.proofs.CallLaws.{served}
+use Rattle.records.specs.Pool.{Pool}
+use Rattle.records.specs.Calls.{admitOf}
 use Rattle.records.proofs.Flags.{cond-le, cond-nle}
 use Rattle.blocks.specs.Blocks.{block, Block, live, Rising, stop, next}
+use Rattle.blocks.specs.Stores.{Good}
 use Rattle.blocks.proofs.ApartLaws.{live-rising}
+use Rattle.blocks.proofs.KeepLaws.{good-admit}
 use Rattle.next.specs.declared.First.{First}
 use Rattle.next.specs.declared.First.the-variants.{At, Nothing}
-use Rattle.next.specs.Next.{firstFrom}
-use Rattle.next.specs.Means.{NextMeans}
+use Rattle.next.specs.Next.{firstFrom, answered, answerOf, nextOf}
 
 -- ---- what was found, taken apart
 
@@ -52,7 +56,8 @@ rising-low (next h z r) x m =
 
 -- ---- the claims, over a rising list
 
-abbrev Lowest : ℕ → List Block → ℕ → ℕ → Type 0
+-- the block is one of the list, lies at or above the place, and no block that does so has a lower place
+abbrev pub Lowest : ℕ → List Block → ℕ → ℕ → Type 0
 Lowest q l y z = List·Memᴰ (block y z) l × (q ≤ y) × ((x : Block) → List·Memᴰ x l → q ≤ x .place → y ≤ x .place)
 
 first-lowest : (q hi y z : ℕ) (l : List Block) (lo : ℕ) → Rising lo l hi → firstFrom q l ≡ At y z → Lowest q l y z
@@ -79,7 +84,8 @@ first-lowest q hi y z (b ∷ l) lo r e =
           λ x n d. ⊎-elim (λ p. let u = ap (λ (i : Block). i .place) p in absurd (omega arith)) (λ o. w x o d) (List·Memᴰ·cases-cons n),
         )
 
-none-below : (q : ℕ) (l : List Block) → firstFrom q l ≡ Nothing → (x : Block) → List·Memᴰ x l → x .place < q
+-- none is found exactly where no block lies at or above the place
+pub none-below : (q : ℕ) (l : List Block) → firstFrom q l ≡ Nothing → (x : Block) → List·Memᴰ x l → x .place < q
 none-below q [] e x m = absurd (List·Memᴰ·not-nil m)
 none-below q (b ∷ l) e x m =
     by-cases (decLe q (b .place))
@@ -88,13 +94,16 @@ none-below q (b ∷ l) e x m =
     ⊎-elim (λ p. let u = ap (λ (i : Block). i .place) p in omega arith)
     (λ n. none-below q l (sym (first-later q b l d) ∙ e) x n) (List·Memᴰ·cases-cons m))
 
-below-none : (q : ℕ) (l : List Block) → ((x : Block) → List·Memᴰ x l → x .place < q) → firstFrom q l ≡ Nothing
+pub below-none : (q : ℕ) (l : List Block) → ((x : Block) → List·Memᴰ x l → x .place < q) → firstFrom q l ≡ Nothing
 below-none q [] f = first-empty q
 below-none q (b ∷ l) f = first-later q b l (f b (List·Memᴰ·head refl)) ∙ below-none q l (λ x m. f x (List·Memᴰ·tail m))
 
-pub means : NextMeans
-means =
-    record {
-      found = λ c p h q y z e. first-lowest q (2097152 * c) y z (live c p) 0 (live-rising c p h) e;
-      none = λ c p q. (none-below q (live c p), below-none q (live c p));
-    }
+-- ---- the call on a good pool
+
+pub live-lowest : (c : ℕ) (p : Pool) → Good c p → (q y z : ℕ) → firstFrom q (live c p) ≡ At y z → Lowest q (live c p) y z
+live-lowest c p h q y z e = first-lowest q (2097152 * c) y z (live c p) 0 (live-rising c p h) e
+
+pub next-by : (c : ℕ) (p : Pool) → Good c p → (q : ℕ) {x : First} → firstFrom q (live c p) ≡ x → nextOf c p q ≡ answerOf x
+unfolding nextOf
+next-by c p h q e =
+    sym (served (admitOf c p) 0 (λ r. answered r 0 0) (answerOf (firstFrom q (live c p))) (sym (good-admit c p h)) refl) ∙ ap answerOf e

@@ -8,7 +8,6 @@ ghost use Rattle.records.specs.Calls.{admitOf};
 ghost use Rattle.blocks.specs.Blocks.{live};
 ghost use Rattle.next.specs.Next.{firstFrom, answerOf};
 ghost use Rattle.next.specs.Walk.{Least, Started, begunAt};
-ghost use Rattle.next.specs.Means.{NextMeans};
 
 // A block's place and size, or none.
 pub enum First {
@@ -174,11 +173,4 @@ pub fn answer_of(x: First) -> Next
             };
         }
     }
-}
-
-// What next finds among the live blocks.
-pub fn next_means() -> bool
-    ensures { λ r. ⌜ NextMeans ⌝ }
-{
-    true
 }

@@ -8,7 +8,7 @@ use Prim.Native.Nat.{ℕ, zero, suc, _+_, _-_, _*_, _/_, _%_, _≤_, _<_}
 use native.Mathlib.Nat.{le-refl, div-add-mod'}
 use native.Mathlib.Omega.{arith}
 use lib.ListN.{getD}
-use Rattle.refusals.specs.Refusals.{freeSlot}
+use Rattle.refusals.specs.Refusals.{noBlock, freeSlot}
 use Rattle.refusals.proofs.CallLaws.{refused, served}
 use Rattle.bitrow.specs.Row.{isSet}
 use Rattle.classes.specs.Classes.{size, slots}
@@ -24,6 +24,7 @@ use Rattle.records.proofs.WalkLaws.{sound-walks}
 use Rattle.records.proofs.RunLaws.{Whole, walk-run, large-at-low}
 use Rattle.classes.proofs.ClassLaws.{any-row}
 use Rattle.records.proofs.WordLaws.{page-word}
+use Rattle.blocks.specs.Blocks.{slotBlock, runBlock, IsSlot, IsLarge}
 use Rattle.release.specs.declared.Spot.{Spot}
 use Rattle.release.specs.declared.Sized.{Sized}
 use Rattle.release.specs.declared.Spot.the-variants.{Nowhere, Run, Slot}
@@ -33,24 +34,15 @@ use Rattle.release.specs.Release.{isInner, firstPage, slotSpot, spotIn, 
 
 -- ---- what was found
 
--- a large run with k pages behind its first starts at the place q
-pub record RunAt (c : ℕ) (p : Pool) (q g k : ℕ) : Type 0 where
-  pub inside : g < 512 * c
-  pub kind : kindAt p g ≡ Large k
-  pub place : q ≡ 4096 * g
-
--- a taken slot of class b starts at the place q
-pub record SlotAt (c : ℕ) (p : Pool) (q g b s : ℕ) : Type 0 where
-  pub inside : g < 512 * c
-  pub kind : kindAt p g ≡ Class b
-  pub slot : s < slots b
-  pub taken : slotAt p g s ≡ true
-  pub place : q ≡ 4096 * g + s * size b
+-- no block starts at the place q: 6 where a free slot does
+pub data Unfound (c : ℕ) (p : Pool) (q : ℕ) : ℕ → Type 0 where
+  none : Unfound c p q noBlock
+  idle : (g b s : ℕ) → IsSlot c p g b s false → slotBlock g b s .place ≡ q → Unfound c p q freeSlot
 
 abbrev pub There : ℕ → Pool → ℕ → Spot → Type 0
-There c p q (Nowhere r) = 1 ≤ r
-There c p q (Run g k) = RunAt c p q g k
-There c p q (Slot g b s) = SlotAt c p q g b s
+There c p q (Nowhere r) = Unfound c p q r
+There c p q (Run g k) = IsLarge c p g k × (runBlock g k .place ≡ q)
+There c p q (Slot g b s) = IsSlot c p g b s true × (slotBlock g b s .place ≡ q)
 
 module _ (c : ℕ) (p : Pool) (q g : ℕ) (l : g < 512 * c) (low : 4096 * g ≤ q) where
   slot-there : (b : ℕ) → kindAt p g ≡ Class b → There c p q (slotSpot (p .slots) g b (q - 4096 * g))
@@ -60,24 +52,24 @@ module _ (c : ℕ) (p : Pool) (q g : ℕ) (l : g < 512 * c) (low : 4096 * g ≤ 
       (λ z. lt-cases (There c p q) ((q - 4096 * g) / size b) (slots b)
       (λ h. go (isSet (p .slots) (512 * g + (q - 4096 * g) / size b)) refl h
       (let r = div-add-mod' (q - 4096 * g) (size b) in omega arith))
-      (λ h. omega arith))
-      (λ z. omega arith)
+      (λ h. none))
+      (λ z. none)
     where
       go : (v : Bool) → isSet (p .slots) (512 * g + (q - 4096 * g) / size b) ≡ v → (q - 4096 * g) / size b < slots b
-          → q ≡ 4096 * g + (q - 4096 * g) / size b * size b
+          → 4096 * g + (q - 4096 * g) / size b * size b ≡ q
           → There c p q (cond v (Slot g b ((q - 4096 * g) / size b)) (Nowhere freeSlot))
-      go true f h r = record { inside = l; kind = e; slot = h; taken = f; place = r }
-      go false f h r = omega arith
+      go true f h r = (record { inside = l; kind = e; slot = h; bit = f }, r)
+      go false f h r = idle g b ((q - 4096 * g) / size b) (record { inside = l; kind = e; slot = h; bit = f }) r
 
   spot-there : (k : Kind) → kindAt p g ≡ k → There c p q (spotIn p g (q - 4096 * g) k)
-  spot-there Edge e = omega arith
-  spot-there Free e = omega arith
-  spot-there Damaged e = omega arith
+  spot-there Edge e = none
+  spot-there Free e = none
+  spot-there Damaged e = none
   spot-there (Large k) e =
       eq-cases (There c p q) (q - 4096 * g) 0
-      (λ z. record { inside = l; kind = e; place = omega arith }) (λ z. omega arith)
+      (λ z. (record { inside = l; kind = e }, omega arith)) (λ z. none)
   spot-there (Class b) e = slot-there b e
-  spot-there (Inner w) e = omega arith
+  spot-there (Inner w) e = none
 
 first-le : (p : Pool) (g : ℕ) → firstPage p g ≤ g
 unfolding firstPage
@@ -94,11 +86,11 @@ there c p q =
     lt-cases (There c p q) (q / 4096) (512 * c)
     (λ h. let f = first-le p (q / 4096) in
     spot-there c p q (firstPage p (q / 4096)) (omega arith) (omega arith) (kindAt p (firstPage p (q / 4096))) refl)
-    (λ h. omega arith)
+    (λ h. none)
 
 -- ---- the pages of a large run
 
-module _ (c : ℕ) (p : Pool) (s : sound c p ≡ true) {q g k : ℕ} (r : RunAt c p q g k) where
+module _ (c : ℕ) (p : Pool) (s : sound c p ≡ true) {g k : ℕ} (r : IsLarge c p g k) where
   large-walk : Whole (kindAt p) (512 * c) g
   large-walk = walk-run (kindAt p) (512 * c) g (sound-walks c p s .walks) (r .inside) (let e : spanOf (kindAt p g) ≡ suc k = ap spanOf (r .kind) in omega arith)
 
@@ -138,7 +130,7 @@ pub found : (c : ℕ) (p : Pool) (q : ℕ) {x y : Spot} → x ≡ spot c p q →
 found c p q e f = subst (There c p q) (sym e ∙ f) (there c p q)
 
 -- a slot is one of at most 512
-pub few-slots : {c : ℕ} {p : Pool} {q g b s : ℕ} → SlotAt c p q g b s → s < 512
+pub few-slots : {c : ℕ} {p : Pool} {g b s : ℕ} → IsSlot c p g b s true → s < 512
 few-slots {b = b} r = let a = any-row b .slots-most in let h = r .slot in omega arith
 
 pub size-as : {x y w : Spot} {z : Sized} → x ≡ y → x ≡ w → z ≡ sizeAt y → z ≡ sizeAt w

@@ -1,3 +1,2 @@
 pub mod Release
 pub mod Areas
-pub mod Means

@@ -9,7 +9,6 @@ ghost use Rattle.records.specs.declared.Kind.the-variants.{Class};
 ghost use Rattle.records.specs.Kinds.{slotsOf};
 ghost use Rattle.records.specs.Lent.{lent, before, after};
 ghost use Rattle.records.specs.Calls.{admitOf, leaves};
-ghost use Rattle.release.specs.Means.{ReleaseMeans};
 ghost use Rattle.release.specs.Release.{slotSpot, spot, released, giveBack, give, sizeAt};
 ghost use Rattle.release.specs.Areas.{Leads, IsSpot};
 
@@ -162,11 +161,4 @@ pub fn size_sound(c: u64, bits: &[u64], words: &[u32], slots: &[u64], q: u64) ->
             };
         }
     }
-}
-
-// What a release and block size do to sound records.
-pub fn release_keeps() -> bool
-    ensures { λ r. ⌜ ReleaseMeans ⌝ }
-{
-    true
 }

@@ -23,10 +23,11 @@ use Rattle.gaps.specs.declared.Found.{Found}
 use Rattle.gaps.specs.declared.Found.the-variants.{At, Nothing}
 use Rattle.gaps.specs.Gaps.{findPages}
 use Rattle.gaps.proofs.Answers.{found-free}
+use Rattle.blocks.specs.Blocks.{IsSlot}
 use Rattle.reserve.specs.declared.Plan.{Plan}
 use Rattle.reserve.specs.declared.Plan.the-variants.{Refuse, TakeSlot, NewClass, NewLarge}
 use Rattle.reserve.specs.Reserve.{lowestFree, hasSlot, slotPage, ifFound, slotOrRun, planSlot, planRun, pagesFor, planLarge, plan}
-use Rattle.reserve.specs.Plans.{SlotFree, PagesFree, PlanOk}
+use Rattle.reserve.specs.Plans.{PagesFree, PlanOk}
 
 -- ---- the lowest free slot of a run
 
@@ -106,7 +107,7 @@ searched p b (suc n) g = go (hasSlot p b g) refl (searched p b n (suc g))
           before = λ i x y. by-cases (ℕ-discrete i g) (λ q. ap (hasSlot p b) q ∙ e) (λ q. s .before i (omega arith) (omega arith));
         }
 
-pub has-free : (c : ℕ) (p : Pool) (b g : ℕ) → g < 512 * c → hasSlot p b g ≡ true → SlotFree c p g b (lowestFree (p .slots) b g)
+pub has-free : (c : ℕ) (p : Pool) (b g : ℕ) → g < 512 * c → hasSlot p b g ≡ true → IsSlot c p g b (lowestFree (p .slots) b g) false
 unfolding hasSlot slotAt isSet
 has-free c p b g l e =
     let k = run-of b (kindAt p g) (and-left (isRunOf b (kindAt p g)) (ltb (lowestFree (p .slots) b g) (slots b)) e) in
@@ -115,7 +116,7 @@ has-free c p b g l e =
       inside = l;
       kind = k;
       slot = h;
-      clear = zero-clear (p .slots) (512 * g + lowestFree (p .slots) b g) (free-first (p .slots) b g .here (omega arith));
+      bit = zero-clear (p .slots) (512 * g + lowestFree (p .slots) b g) (free-first (p .slots) b g .here (omega arith));
     }
 
 -- ---- free pages

@@ -1,5 +1,6 @@
 -- The stores of a reserve, as the code makes them. Assumes nothing.
 use mathlib.Core.Path.{_≡_, sym, ap, _∙_, subst}
+use mathlib.Core.Bool.{false}
 use Prim.Native.Nat.{ℕ, _+_, _-_, _<_}
 use native.Mathlib.Omega.{arith}
 use lib.ListN.{getD}
@@ -8,11 +9,12 @@ use Rattle.records.specs.declared.Kind.the-variants.{Class}
 use Rattle.records.specs.Kinds.{wordsOf}
 use Rattle.records.specs.Pool.{Pool}
 use Rattle.records.proofs.WordLaws.{page-word}
+use Rattle.blocks.specs.Blocks.{IsSlot}
 use Rattle.blocks.specs.Stores.{putRun, putSlot}
 use Rattle.reserve.specs.declared.Plan.{Plan}
 use Rattle.reserve.specs.declared.Plan.the-variants.{NewClass}
 use Rattle.reserve.specs.Reserve.{perform}
-use Rattle.reserve.specs.Plans.{SlotFree, PagesFree, PlanOk}
+use Rattle.reserve.specs.Plans.{PagesFree, PlanOk}
 
 -- ---- a new run of a class, with its slot 0 taken
 
@@ -25,7 +27,7 @@ class-taken p g b e f = f ∙ ap (λ (x : Pool). putSlot 1 x g 0) e
 pub free-words : {c : ℕ} {p : Pool} {g n : ℕ} → PagesFree c p g n → (i : ℕ) → g < i → i < g + n → getD (p .words) i 0 ≡ 0
 free-words {p = p} f i a b = page-word p i (f .clear i (omega arith) b)
 
-pub slot-few : {c : ℕ} {p : Pool} {g b s : ℕ} → SlotFree c p g b s → s < 512
+pub slot-few : {c : ℕ} {p : Pool} {g b s : ℕ} → IsSlot c p g b s false → s < 512
 slot-few {b = b} f = let a = any-row b .slots-most in let h = f .slot in omega arith
 
 -- the plan, as it was matched

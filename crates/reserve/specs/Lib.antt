@@ -1,3 +1,2 @@
 pub mod Reserve
 pub mod Plans
-pub mod Means

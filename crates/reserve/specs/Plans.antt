@@ -2,18 +2,12 @@
 use mathlib.Core.Path.{_≡_}
 use mathlib.Core.Bool.{false}
 use Prim.Native.Nat.{ℕ, suc, _+_, _*_, _≤_, _<_}
-use Rattle.classes.specs.Classes.{size, slots, pages}
-use Rattle.records.specs.declared.Kind.the-variants.{Free, Class}
-use Rattle.records.specs.Pool.{Pool, kindAt, slotAt}
+use Rattle.classes.specs.Classes.{size, pages}
+use Rattle.records.specs.declared.Kind.the-variants.{Free}
+use Rattle.records.specs.Pool.{Pool, kindAt}
+use Rattle.blocks.specs.Blocks.{IsSlot}
 use Rattle.reserve.specs.declared.Plan.{Plan}
 use Rattle.reserve.specs.declared.Plan.the-variants.{Refuse, TakeSlot, NewClass, NewLarge}
-
--- slot s of the run of class b at page g is free
-pub record SlotFree (c : ℕ) (p : Pool) (g b s : ℕ) : Type 0 where
-  pub inside : g < 512 * c
-  pub kind : kindAt p g ≡ Class b
-  pub slot : s < slots b
-  pub clear : slotAt p g s ≡ false
 
 -- the n pages from page g on are free
 pub record PagesFree (c : ℕ) (p : Pool) (g n : ℕ) : Type 0 where
@@ -24,7 +18,7 @@ pub record PagesFree (c : ℕ) (p : Pool) (g n : ℕ) : Type 0 where
 
 abbrev pub PlanOk : ℕ → Pool → Plan → Type 0
 PlanOk c p (Refuse r) = 1 ≤ r
-PlanOk c p (TakeSlot g b s) = SlotFree c p g b s
+PlanOk c p (TakeSlot g b s) = IsSlot c p g b s false
 PlanOk c p (NewClass g b) = (b < 30) × PagesFree c p g (pages b)
 PlanOk c p (NewLarge g k) = PagesFree c p g (suc k)
 

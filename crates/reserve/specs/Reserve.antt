@@ -73,18 +73,24 @@ perform p (NewLarge g k) = putRun 1 p g (wordsOf (Large k))
 
 -- ---- what it answers
 
+-- nothing
 abbrev pub refused : ℕ → Reserved
 refused r = record { refusal = r; place = 0; size = 0; kind = None }
 
+-- slot s of the run of class b at page g
 abbrev pub slotGiven : ℕ → ℕ → ℕ → Reserved
 slotGiven g b s =
     record { refusal = 0; place = 4096 * g + s * size b; size = size b; kind = Slot (record { class = b; first = g; number = s }) }
+
+-- a large run of n pages at page g
+abbrev pub runGiven : ℕ → ℕ → Reserved
+runGiven g n = record { refusal = 0; place = 4096 * g; size = 4096 * n; kind = Run n }
 
 abbrev pub answer : Plan → Reserved
 answer (Refuse r) = refused r
 answer (TakeSlot g b s) = slotGiven g b s
 answer (NewClass g b) = slotGiven g b 0
-answer (NewLarge g k) = record { refusal = 0; place = 4096 * g; size = 4096 * suc k; kind = Run (suc k) }
+answer (NewLarge g k) = runGiven g (suc k)
 
 -- a try on given records
 unfoldable pub attempt : ℕ → Pool → ℕ → Left Reserved Pool

@@ -10,7 +10,6 @@ ghost use Rattle.records.specs.Kinds.{slotsOf};
 ghost use Rattle.records.specs.Lent.{lent, before, after};
 ghost use Rattle.records.specs.Calls.{admitOf, leaves};
 ghost use Rattle.reserve.specs.Reserve.{lowestFree, hasSlot, slotPage, planSlot, planRun, planLarge, plan, perform, slotGiven, answer, attempt, refused};
-ghost use Rattle.reserve.specs.Means.{ReserveMeans};
 ghost use Rattle.reserve.specs.Plans.{PlanOk, PlanLow, PlanSize};
 
 // What a reserve will do: refuse with a number; take slot s of the run of class b at page g; start a run of class b at page g; start a
@@ -296,11 +295,4 @@ pub fn reserve_sound(
     perform_plan(c, bits, words, slots, x);
     let bytes = plan_size(x);
     answer_of(x, bytes)
-}
-
-// What a reserve does to sound records, and that it finds what RULES 5.2 says.
-pub fn reserve_keeps() -> bool
-    ensures { λ r. ⌜ ReserveMeans ⌝ }
-{
-    true
 }

@@ -21,10 +21,11 @@ use Rattle.records.proofs.RunLaws.{begins-run}
 use Rattle.records.proofs.WordLaws.{page-word, page-large, page-inside, page-edge, page-free}
 use Rattle.records.proofs.AdmitLaws.{admitted}
 use Rattle.blocks.specs.Blocks.{live}
+use Rattle.blocks.specs.Stores.{Good}
+use Rattle.blocks.proofs.KeepLaws.{good-admit}
 use Rattle.totals.specs.declared.Amount.{Amount}
 use Rattle.totals.specs.declared.Sums.{Sums}
 use Rattle.totals.specs.Totals.{amountOf, sum, freeOf, freePages, runPages, totalled, summed, totalsOf}
-use Rattle.totals.specs.Means.{TotalsMean}
 use Rattle.totals.proofs.AmountLaws.{digit-set}
 
 -- ---- free pages are those whose page bit is 0
@@ -140,5 +141,8 @@ module _ (c : ℕ) (p : Pool) (s : sound c p ≡ true) where
       let a = walk-share (kindAt p) (512 * c) [] 0 (sound-walks c p s .walks) in
       let b = edge-count 0 (512 * c) (omega arith) in omega arith
 
-pub totals-mean : TotalsMean
-totals-mean = record { pages = λ c p g. pages-add c p (g .whole) }
+-- ---- the call on a good pool
+
+pub totals-by : (c : ℕ) (p : Pool) → Good c p → totalsOf c p ≡ summed c p
+unfolding totalsOf
+totals-by c p h = sym (served (admitOf c p) 0 (λ r. totalled r 0 0 0) (summed c p) (sym (good-admit c p h)) refl)

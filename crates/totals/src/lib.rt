@@ -10,7 +10,6 @@ ghost use Rattle.records.specs.Calls.{admitOf};
 ghost use Rattle.blocks.specs.Blocks.{blocksAt, live};
 ghost use Rattle.totals.specs.Totals.{amountOf, summed};
 ghost use Rattle.totals.specs.Rows.{classIn};
-ghost use Rattle.totals.specs.Means.{TotalsMean};
 
 // Some live blocks: how many, and the sum of the sizes given.
 pub struct Amount {
@@ -119,11 +118,4 @@ pub fn totals_sound(c: u64, bits: &[u64], words: &[u32], slots: &[u64]) -> Sums
         bytes: widths::wide64(t.bytes),
         free: widths::wide64(n - taken),
     }
-}
-
-// What the totals of sound records add up to.
-pub fn totals_mean() -> bool
-    ensures { λ r. ⌜ TotalsMean ⌝ }
-{
-    true
 }

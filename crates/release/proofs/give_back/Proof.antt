@@ -1,9 +1,11 @@
 -- `release::give_back` meets its contract. Assumes nothing.
 use borrow.Author.Needs.{needs}
 use native.Mathlib.Omega.{arith}
+use mathlib.Core.Bool.{true}
 use mathlib.Core.Path.{refl}
 use Rattle.records.proofs.AdmitLaws.{admitted}
-use Rattle.release.proofs.GiveLaws.{RunAt, SlotAt, found, large-ends, large-zeros, few-slots, gave-nothing, gave-stored}
+use Rattle.blocks.specs.Blocks.{IsSlot, IsLarge}
+use Rattle.release.proofs.GiveLaws.{found, large-ends, large-zeros, few-slots, gave-nothing, gave-stored}
 use Rattle.release.proofs.give_back.Statement.{statement}
 use Rattle.release.proofs.give_back.Tie as tie
 
@@ -14,7 +16,7 @@ free-large-requires : tie.Need-free-large-requires
 free-large-requires c κs =
     let matched = c .before .before .before .before in let start = matched .before .before .before .before .before in
     let a = admitted _ _ (start .pre .0) in let h = a .shape in
-    let r : RunAt _ _ _ _ _ = found _ _ _ (start .pre .1 .1) (matched .x2 .given .1) in
+    let (r, _) : IsLarge _ _ _ _ × _ = found _ _ _ (start .pre .1 .1) (matched .x2 .given .1) in
     let e = large-ends _ _ (a .whole) r in
     record { few = e .1; low = omega arith; bit = omega arith; word = omega arith; zero = large-zeros _ _ (a .whole) r }
 
@@ -27,7 +29,7 @@ put-slot-requires : tie.Need-put-slot-requires
 put-slot-requires c κs =
     let matched = c .before .before .before .before in let start = matched .before .before .before .before .before in
     let h = admitted _ _ (start .pre .0) .shape in
-    let r : SlotAt _ _ _ _ _ _ = found _ _ _ (start .pre .1 .1) (matched .x3 .given .1) in let i = r .inside in
+    let (r, _) : IsSlot _ _ _ _ _ true × _ = found _ _ _ (start .pre .1 .1) (matched .x3 .given .1) in let i = r .inside in
     (omega arith, (few-slots r, omega arith))
 
 returns-3 : tie.Need-returns-3

@@ -1,4 +1,5 @@
 -- `release::size_sound` meets its contract. Assumes nothing.
+use mathlib.Core.Bool.{true}
 use mathlib.Core.Path.{refl, ap, _∙_}
 use Prim.Native.Nat.{ℕ, _*_}
 use native.Mathlib.Omega.{arith}
@@ -7,7 +8,8 @@ use Rattle.classes.proofs.ClassLaws.{size-read}
 use Rattle.records.proofs.AdmitLaws.{admitted}
 use Rattle.records.proofs.RunLaws.{class-at-low}
 use Rattle.release.specs.Release.{sized}
-use Rattle.release.proofs.GiveLaws.{RunAt, SlotAt, found, large-ends, size-as}
+use Rattle.blocks.specs.Blocks.{IsSlot, IsLarge}
+use Rattle.release.proofs.GiveLaws.{found, large-ends, size-as}
 use borrow.Author.Needs.{needs}
 use Rattle.release.proofs.size_sound.Statement.{statement}
 use Rattle.release.proofs.size_sound.Tie as tie
@@ -19,14 +21,14 @@ add-n : tie.Need-add-n
 add-n c =
     let matched = c .before in let found-at = matched .before .before in let start = found-at .before .before .before .before in
     let a = admitted _ _ (start .pre) in let h = a .shape in
-    let r : RunAt _ _ _ _ _ = found _ _ _ (found-at .spot-at .ensures) (matched .g .given .1) in
+    let (r, _) : IsLarge _ _ _ _ × _ = found _ _ _ (found-at .spot-at .ensures) (matched .g .given .1) in
     let e = large-ends _ _ (a .whole) r in record { fits = omega arith }
 
 mul-t16 : tie.Need-mul-t16
 mul-t16 c =
     let matched = c .before .before in let found-at = matched .before .before in let start = found-at .before .before .before .before in
     let a = admitted _ _ (start .pre) in let h = a .shape in
-    let r : RunAt _ _ _ _ _ = found _ _ _ (found-at .spot-at .ensures) (matched .g .given .1) in
+    let (r, _) : IsLarge _ _ _ _ × _ = found _ _ _ (found-at .spot-at .ensures) (matched .g .given .1) in
     let e = large-ends _ _ (a .whole) r in let n = c .wide64 .ensures in record { fits = omega arith }
 
 returns-2 : tie.Need-returns-2
@@ -36,7 +38,7 @@ returns-2 c =
 
 class-row-requires : tie.Need-class-row-requires
 class-row-requires c κs =
-    let r : SlotAt _ _ _ _ _ _ = found _ _ _ (c .before .before .before .spot-at .ensures) (c .before .g2 .given .1) in
+    let (r, _) : IsSlot _ _ _ _ _ true × _ = found _ _ _ (c .before .before .before .spot-at .ensures) (c .before .g2 .given .1) in
     class-at-low _ _ _ (r .kind)
 
 returns-3 : tie.Need-returns-3

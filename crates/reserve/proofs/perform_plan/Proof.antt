@@ -1,10 +1,12 @@
 -- `reserve::perform_plan` meets its contract. Assumes nothing.
 use borrow.Author.Needs.{needs}
 use mathlib.Core.Path.{refl}
+use mathlib.Core.Bool.{false}
 use Prim.Native.Nat.{_<_}
 use native.Mathlib.Omega.{arith}
 use Rattle.records.proofs.AdmitLaws.{admitted}
-use Rattle.reserve.specs.Plans.{SlotFree, PagesFree}
+use Rattle.blocks.specs.Blocks.{IsSlot}
+use Rattle.reserve.specs.Plans.{PagesFree}
 use Rattle.reserve.proofs.StoreForms.{ok-as, perform-as, slot-few, class-taken, free-words}
 use Rattle.reserve.proofs.perform_plan.Statement.{statement}
 use Rattle.reserve.proofs.perform_plan.Tie as tie
@@ -16,7 +18,7 @@ put-slot-requires : tie.Need-put-slot-requires
 put-slot-requires c κs =
     let matched = c .before .before .before .before in let start = matched .before .before .before .before .before in
     let h = admitted _ _ (start .pre .0) .shape in
-    let r : SlotFree _ _ _ _ _ = ok-as _ _ (matched .x2 .given .1) (start .pre .1) in let i = r .inside in
+    let r : IsSlot _ _ _ _ _ false = ok-as _ _ (matched .x2 .given .1) (start .pre .1) in let i = r .inside in
     (omega arith, (slot-few r, omega arith))
 
 returns-2 : tie.Need-returns-2

@@ -11,7 +11,7 @@ use lib.Dec.{eqb}
 use lib.ListN.{length, getD}
 use Rattle.records.proofs.Flags.{cond-eq, cond-ne, cond-le, cond-nle, eq-cases, le-cases}
 use Rattle.blocks.specs.Blocks.{block, Block, Ins, here, there, Rising, stop, next}
-use Rattle.series.specs.Demand3.{takeOut, insert, sort, Holds}
+use Rattle.demands.specs.Demand3.{takeOut, insert, sort, Holds}
 
 -- ---- a block more or less, in a list that rises
 

@@ -19,17 +19,17 @@ use Rattle.blocks.proofs.ApartLaws.{live-rising}
 use Rattle.blocks.proofs.KeepLaws.{admit-good, fresh-empty, fresh-good}
 use Rattle.reserve.specs.declared.Reserved.{Reserved}
 use Rattle.reserve.specs.Reserve.{refused, attempt, reserveOf}
-use Rattle.reserve.specs.Means.{blockOf}
-use Rattle.reserve.proofs.MeanLaws.{reserve-means}
+use Rattle.reserve.proofs.MeanLaws.{attempt-gains, attempt-kept}
 use Rattle.release.specs.Release.{give, releaseOf}
-use Rattle.release.proofs.MeanLaws.{release-means}
+use Rattle.release.proofs.MeanLaws.{give-loses, give-kept}
 use Rattle.replay.specs.declared.Event.{Event}
 use Rattle.replay.specs.Run.{reserveEvent, releaseEvent, Run, ended, runAll, runOf, replayOf}
 use Rattle.replay.proofs.RunLaws.{over-all}
 use Rattle.lines.specs.Lines.{linesRoom, printed, telling, printedOf}
-use Rattle.series.specs.Demand3.{takeOut, note, notes, State, state, call, series, insert, sort}
-use Rattle.series.specs.Demand3.{Call, check, fresh, totals, reserve, release, blockSize, next, census, replay, lines, bytes}
-use Rattle.series.proofs.BookLaws.{ins-insert, ins-out, sort-out}
+use Rattle.demands.specs.Demand2.{blockOf}
+use Rattle.demands.specs.Demand3.{takeOut, note, notes, State, state, call, series, insert, sort}
+use Rattle.demands.specs.Demand3.{Call, check, fresh, totals, reserve, release, blockSize, next, census, replay, lines, bytes}
+use Rattle.demands.proofs.BookLaws.{ins-insert, ins-out, sort-out}
 
 -- the pool is good, and its live blocks are the book's by rising place
 pub record Booked (c : ℕ) (x : State) : Type 0 where
@@ -119,7 +119,8 @@ module _ (c d : ℕ) (x : State) (h : Booked c x) where
   reserve-keeps n =
       admit-cases (λ (y : Left Reserved Pool). Booked c (state (y .left) (note (reserveEvent n (y .answer)) (x .book))))
       (λ m. attempt m (x .pool) n) (λ r. leaves (refused r) (x .pool))
-      (reserve-noted c n x (attempt c (x .pool) n) h (reserve-means .served c (x .pool) (h .good) n) (reserve-means .refused c (x .pool) n))
+      (reserve-noted c n x (attempt c (x .pool) n) h (attempt-gains c (x .pool) (h .good) n)
+      (λ r e. ap (λ (y : Left Reserved Pool). y .left) (attempt-kept c (x .pool) n r e)))
       (λ r. reserve-noted c n x (leaves (refused (suc r)) (x .pool)) h (λ e. absurd (omega arith)) (λ k e. refl))
 
   release-keeps : (q : ℕ) → Booked c (call (release d q) x)
@@ -128,8 +129,8 @@ module _ (c d : ℕ) (x : State) (h : Booked c x) where
       admit-cases (λ (y : Left ℕ Pool). Booked c (state (y .left) (note (releaseEvent q (y .answer)) (x .book))))
       (λ m. give m (x .pool) q) (λ r. leaves r (x .pool))
       (release-noted c q x (give c (x .pool) q) h
-      (λ e. let (b, at, size, less) = release-means .served c (x .pool) (h .good) q e in (b, at, less))
-      (release-means .refused c (x .pool) q))
+      (λ e. let (b, at, size, less) = give-loses c (x .pool) (h .good) q e in (b, at, less))
+      (λ r e. ap (λ (y : Left ℕ Pool). y .left) (give-kept c (x .pool) q r e)))
       (λ r. release-noted c q x (leaves (suc r) (x .pool)) h (λ e. absurd (omega arith)) (λ k e. refl))
 
 -- ---- a replay

@@ -106,7 +106,8 @@ sort (b ∷ l) = insert b (sort l)
 abbrev pub Holds : Block → ℕ → Type 0
 Holds b q = (b .place ≤ q) × (q < b .place + b .size)
 
-pub record Demand3 (c : ℕ) (x : State) : Type 0 where
+-- the census lists the book
+pub record Lists (c : ℕ) (x : State) : Type 0 where
   -- a census with the same c and at least two words for each block in the book is served; its count is the book's length, and its words
   -- are the book's blocks by rising place, place then size; the words behind them are as they were
   pub census : (room : List ℕ) → 2 * length (x .book) ≤ length room
@@ -120,8 +121,8 @@ pub record Demand3 (c : ℕ) (x : State) : Type 0 where
   -- none touches the first page of a chunk
   pub off : (b : Block) → List·Memᴰ b (x .book) → (q : ℕ) → Holds b q → q / 4096 % 512 ≢ 0
 
-pub record Claim : Type 0 where
+pub record Demand3 : Type 0 where
   -- for every c from 1 to 16 there are buffers that a fresh call accepts
   pub opens : (c : ℕ) → 1 ≤ c → c ≤ 16 → freshOf c (pool (zeros (8 * c)) (zeros (512 * c)) (zeros (4096 * c))) .answer ≡ 0
   -- whatever they held, and whatever calls follow
-  pub demand3 : (c : ℕ) (p : Pool) → freshOf c p .answer ≡ 0 → (calls : List Call) → Demand3 c (series calls (state (freshOf c p .left) []))
+  pub lists : (c : ℕ) (p : Pool) → freshOf c p .answer ≡ 0 → (calls : List Call) → Lists c (series calls (state (freshOf c p .left) []))

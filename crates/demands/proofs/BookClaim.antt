@@ -14,10 +14,10 @@ use Rattle.records.proofs.FreshLaws.{fresh-served}
 use Rattle.blocks.specs.Blocks.{Block, live, Rising}
 use Rattle.blocks.proofs.ApartLaws.{live-rising, live-off}
 use Rattle.census.specs.Census.{wordsFor, counted, censusOf}
-use Rattle.census.proofs.MeanLaws.{census-means}
-use Rattle.series.specs.Demand3.{State, state, sort, Demand3, Claim}
-use Rattle.series.proofs.BookLaws.{length-sort, in-sort, rising-apart}
-use Rattle.series.proofs.KeepLaws.{Booked, fresh-noted, series-keeps}
+use Rattle.census.proofs.MeanLaws as census
+use Rattle.demands.specs.Demand3.{State, state, sort, Lists, Demand3}
+use Rattle.demands.proofs.BookLaws.{length-sort, in-sort, rising-apart}
+use Rattle.demands.proofs.KeepLaws.{Booked, fresh-noted, series-keeps}
 
 -- ---- what the book says
 
@@ -30,15 +30,15 @@ module _ (c : ℕ) (x : State) (h : Booked c x) where
       ≡ leaves (counted 0 (length (x .book))) (wordsFor (sort (x .book)) ++ drop (2 * length (x .book)) room)
   census-lists room k =
       let n = count in
-      census-means .served c (x .pool) room (h .good) (omega arith)
+      census.census-lists c (x .pool) room (h .good) (omega arith)
       ∙ ap (λ (m : ℕ). leaves (counted 0 m) (wordsFor (live c (x .pool)) ++ drop (2 * m) room)) n
       ∙ ap (λ (l : List Block). leaves (counted 0 (length (x .book))) (wordsFor l ++ drop (2 * length (x .book)) room)) (h .listed)
 
   book-rising : Rising 0 (sort (x .book)) (2097152 * c)
   book-rising = subst (λ (l : List Block). Rising 0 l (2097152 * c)) (h .listed) (live-rising c (x .pool) (h .good))
 
-  booked-demand : Demand3 c x
-  booked-demand =
+  booked-lists : Lists c x
+  booked-lists =
       let n = length-sort (x .book) in
       record {
         census = census-lists;
@@ -71,10 +71,10 @@ zeros-open c l m =
       slots-long = length-zeros (4096 * c);
     }))))
 
-pub claim : Claim
-claim =
+pub demand-3 : Demand3
+demand-3 =
     record {
       opens = zeros-open;
-      demand3 = λ c p e calls.
-          booked-demand c _ (series-keeps c calls (state (freshOf c p .left) []) (fresh-noted c p (fresh-fits c p e)));
+      lists = λ c p e calls.
+          booked-lists c _ (series-keeps c calls (state (freshOf c p .left) []) (fresh-noted c p (fresh-fits c p e)));
     }

@@ -1,0 +1,7 @@
+pub mod RefusalClaim
+pub mod ReserveRules
+pub mod PlaceRules
+pub mod RuleClaim
+pub mod BookLaws
+pub mod KeepLaws
+pub mod BookClaim

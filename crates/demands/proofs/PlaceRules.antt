@@ -1,0 +1,155 @@
+-- Demand 2: release, block size and next, rule by rule. Assumes nothing.
+use mathlib.Core.Path.{_≡_, refl, sym, ap, ap₂, _∙_, subst}
+use mathlib.Core.Logic.{_≢_}
+use mathlib.Core.Bool.{Bool, true, false, cond}
+use Prim.Native.Nat.{ℕ, suc, _+_, _≤_, _<_}
+use native.Mathlib.Omega.{arith}
+use borrow.Author.Tests.{ne-eqb}
+use Rattle.refusals.specs.Refusals.{noBlock, freeSlot}
+use Rattle.classes.specs.Classes.{size, Smallest}
+use Rattle.classes.proofs.ClassLaws.{any-row}
+use Rattle.records.specs.declared.Kind.the-variants.{Free}
+use Rattle.records.specs.Pool.{Pool, kindAt}
+use Rattle.records.specs.Calls.{Left, leaves}
+use Rattle.records.proofs.AdmitLaws.{shaped-lengths}
+use Rattle.gaps.specs.declared.Found.the-variants.{At, Nothing}
+use Rattle.blocks.specs.Blocks.{Block, block, slotBlock, runBlock, IsSlot, IsLarge, IsLive, run, slot, live, there}
+use Rattle.blocks.specs.Stores.{putSlot, Good, Loses}
+use Rattle.blocks.proofs.ApartLaws.{live-is}
+use Rattle.blocks.proofs.StoreLaws.{slot-kinds, slot-same}
+use Rattle.blocks.proofs.KeepLaws.{give-slot, free-large}
+use Rattle.reserve.specs.declared.Reserved.{Reserved}
+use Rattle.reserve.specs.Reserve.{answer, reserveOf}
+use Rattle.release.specs.declared.Spot.{Spot}
+use Rattle.release.specs.declared.Spot.the-variants.{Nowhere, Run, Slot}
+use Rattle.release.specs.Release.{spot, released, releaseOf, sized, sizeOf}
+use Rattle.release.proofs.GiveLaws as places
+use Rattle.release.proofs.MeanLaws as spots
+use Rattle.release.proofs.MeanLaws.{give-loses, release-give, release-by, size-by}
+use Rattle.release.specs.declared.Sized.{Sized}
+use Rattle.next.specs.declared.First.{First}
+use Rattle.next.specs.declared.First.the-variants as first
+use Rattle.next.specs.declared.Next.{Next}
+use Rattle.next.specs.Next.{firstFrom, answered, nextOf}
+use Rattle.next.proofs.MeanLaws.{live-lowest, none-below, below-none, next-by}
+use Rattle.demands.specs.Demand2.{Reserves}
+use Rattle.demands.specs.Demand2.{Nexts, next-block, no-block}
+use Rattle.demands.specs.Demand2.{Releases, run-there, slot-taken, slot-free, nothing}
+use Rattle.demands.proofs.ReserveRules.{rule, slot-serves}
+
+-- ---- release and block size
+
+-- nothing starts where a block does
+apart : {x y : Spot} → x ≡ Nowhere noBlock → x ≡ y → released y ≢ noBlock → ⊥
+apart e f n = n (ap released (sym f ∙ e))
+
+module _ (c : ℕ) (p : Pool) (h : Good c p) where
+  module _ (q : ℕ) where
+    large-at : (g k : ℕ) → IsLarge c p g k → runBlock g k .place ≡ q → spot c p q ≡ Run g k
+    large-at g k r at = subst (λ (y : ℕ). spot c p y ≡ Run g k) at (spots.run-found c p h g k r)
+
+    slot-at : (g b s : ℕ) (v : Bool) → IsSlot c p g b s v → slotBlock g b s .place ≡ q → spot c p q ≡ cond v (Slot g b s) (Nowhere freeSlot)
+    slot-at g b s v r at = subst (λ (y : ℕ). spot c p y ≡ cond v (Slot g b s) (Nowhere freeSlot)) at (spots.slot-found c p h g b s v r)
+
+    pub by-place : {x : Left ℕ Pool} → Releases c p q x → releaseOf c p q ≡ x
+    by-place (run-there g k r at) = release-by c p h q (large-at g k r at)
+    by-place (slot-taken g b s r at) = release-by c p h q (slot-at g b s true r at)
+    by-place (slot-free g b s r at) = release-by c p h q (slot-at g b s false r at)
+    by-place (nothing no-large no-such) = go (spot c p q) refl (places.there c p q)
+      where
+        go : (x : Spot) → spot c p q ≡ x → places.There c p q x → releaseOf c p q ≡ leaves noBlock p
+        go (Nowhere r) e places.none = release-by c p h q e
+        go (Nowhere r) e (places.idle g b s i at) = absurd (no-such g b s false i at)
+        go (Run g k) e (r, at) = absurd (no-large g k r at)
+        go (Slot g b s) e (r, at) = absurd (no-such g b s true r at)
+
+    pub place-rule : Releases c p q (releaseOf c p q)
+    place-rule = go (spot c p q) refl (places.there c p q)
+      where
+        placed : {x : Left ℕ Pool} → releaseOf c p q ≡ x → Releases c p q x → Releases c p q (releaseOf c p q)
+        placed e r = subst (Releases c p q) (sym e) r
+
+        free-or-taken : (g b s : ℕ) (v : Bool) → spot c p q ≡ Nowhere noBlock → spot c p q ≡ cond v (Slot g b s) (Nowhere freeSlot) → ⊥
+        free-or-taken g b s true e f = apart e f (omega arith)
+        free-or-taken g b s false e f = apart e f (omega arith)
+
+        go : (x : Spot) → spot c p q ≡ x → places.There c p q x → Releases c p q (releaseOf c p q)
+        go (Nowhere r) e places.none =
+            placed (release-by c p h q e)
+            (nothing (λ g k x at. apart e (large-at g k x at) (omega arith)) (λ g b s v x at. free-or-taken g b s v e (slot-at g b s v x at)))
+        go (Nowhere r) e (places.idle g b s x at) = placed (release-by c p h q e) (slot-free g b s x at)
+        go (Run g k) e (x, at) = placed (release-by c p h q e) (run-there g k x at)
+        go (Slot g b s) e (x, at) = placed (release-by c p h q e) (slot-taken g b s x at)
+
+    pub block-lost : releaseOf c p q .answer ≡ 0 → (b : Block) × (b .place ≡ q) × Loses c p (releaseOf c p q .left) b
+    block-lost e =
+        let g = release-give c p h q in
+        let (b, at, size, less) = give-loses c p h q (ap (λ (x : Left ℕ Pool). x .answer) (sym g) ∙ e) in
+        (b, at, subst (λ (x : Left ℕ Pool). Loses c p (x .left) b) (sym g) less)
+
+    pub unsized : (r : ℕ) → releaseOf c p q .answer ≡ suc r → sizeOf c p q ≡ sized (suc r) 0
+    unsized r e = go (spot c p q) refl (ap (λ (x : Left ℕ Pool). x .answer) (sym (release-by c p h q refl)) ∙ e)
+      where
+        go : (x : Spot) → spot c p q ≡ x → released x ≡ suc r → sizeOf c p q ≡ sized (suc r) 0
+        go (Nowhere n) f k = size-by c p h q f ∙ ap (λ (m : ℕ). sized m 0) k
+        go (Run g n) f k = absurd (omega arith)
+        go (Slot g b s) f k = absurd (omega arith)
+
+  -- at the place of a live block
+  pub live-served : {b : Block} → IsLive c p b → releaseOf c p (b .place) .answer ≡ 0
+  live-served (run g k r) = ap (λ (x : Left ℕ Pool). x .answer) (by-place _ (run-there g k r refl))
+  live-served (slot g b s r) = ap (λ (x : Left ℕ Pool). x .answer) (by-place _ (slot-taken g b s r refl))
+
+  pub live-sized : {b : Block} → IsLive c p b → sizeOf c p (b .place) ≡ sized 0 (b .size)
+  live-sized (run g k r) = size-by c p h _ (large-at _ g k r refl)
+  live-sized (slot g b s r) = size-by c p h _ (slot-at _ g b s true r refl)
+
+  -- a freed slot is free
+  slot-freed : (g b s : ℕ) → IsSlot c p g b s true → IsSlot c (putSlot 0 p g s) g b s false
+  slot-freed g b s x =
+      let few = any-row b .slots-most in let l = x .slot in
+      record {
+        inside = x .inside;
+        kind = slot-kinds c 0 p g s g ∙ x .kind;
+        slot = x .slot;
+        bit = slot-same c 0 p g s (omega arith) (shaped-lengths c _ _ _ (h .shape)) (x .inside) (omega arith) ∙ ne-eqb 0 1 (omega arith);
+      }
+
+  pub serves-again : (g b s : ℕ) → IsSlot c p g b s true → (n : ℕ) → Smallest n b → (x : Left Reserved Pool)
+      → x ≡ reserveOf c (releaseOf c p (slotBlock g b s .place) .left) n → (x .answer .refusal ≡ 0) × (x .answer .place ≤ slotBlock g b s .place)
+  serves-again g b s i n f x e =
+      let freed : releaseOf c p (slotBlock g b s .place) .left ≡ putSlot 0 p g s =
+      ap (λ (y : Left ℕ Pool). y .left) (by-place _ (slot-taken g b s i refl)) in
+      slot-serves g b s (slot-freed g b s i) f
+      (subst (Reserves c (putSlot 0 p g s) n) (sym (e ∙ ap (λ (y : Pool). reserveOf c y n) freed)) (rule c (putSlot 0 p g s) (give-slot c p h g b s i .good) n))
+
+  pub pages-freed : (g k : ℕ) → IsLarge c p g k → (i : ℕ) → g ≤ i → i < g + suc k → kindAt (releaseOf c p (runBlock g k .place) .left) i ≡ Free
+  pages-freed g k r i a b =
+      ap (λ (y : Left ℕ Pool). kindAt (y .left) i) (by-place _ (run-there g k r refl)) ∙ free-large c p h g k r .were i a b
+
+-- ---- next
+
+module _ (c : ℕ) (p : Pool) (h : Good c p) (q : ℕ) where
+  -- live blocks at one place have one size
+  one-size : {x y : Block} → IsLive c p x → IsLive c p y → x .place ≡ y .place → x .size ≡ y .size
+  one-size {x} {y} i j e =
+      ap (λ (s : Sized). s .size) (sym (live-sized c p h i) ∙ ap (sizeOf c p) e ∙ live-sized c p h j)
+
+  pub by-next : {x : Next} → Nexts c p q x → nextOf c p q ≡ x
+  by-next (next-block b m l low) = go (firstFrom q (live c p)) refl
+    where
+      go : (x : First) → firstFrom q (live c p) ≡ x → nextOf c p q ≡ answered 0 (b .place) (b .size)
+      go (first.At y z) e =
+          let (n, k, least) = live-lowest c p h q y z e in
+          let same : y ≡ b .place = omega (arith, least b m l, low (block y z) n k) in
+          next-by c p h q e ∙ ap₂ (answered 0) same (one-size (live-is c p n) (live-is c p m) same)
+      go first.Nothing e = absurd (omega (arith, none-below q (live c p) e b m))
+  by-next (no-block f) = next-by c p h q (below-none q (live c p) f)
+
+  pub next-rule : Nexts c p q (nextOf c p q)
+  next-rule = go (firstFrom q (live c p)) refl
+    where
+      go : (x : First) → firstFrom q (live c p) ≡ x → Nexts c p q (nextOf c p q)
+      go (first.At y z) e =
+          let (n, k, least) = live-lowest c p h q y z e in subst (Nexts c p q) (sym (next-by c p h q e)) (next-block (block y z) n k least)
+      go first.Nothing e = subst (Nexts c p q) (sym (next-by c p h q e)) (no-block (none-below q (live c p) e))

@@ -1,0 +1,215 @@
+-- Demand 1: what a refused call answers and leaves. Assumes nothing.
+use mathlib.Core.Path.{_≡_, refl, sym, ap, _∙_}
+use mathlib.Core.Logic.{_↔_}
+use mathlib.Core.Bool.{Bool, true, false, cond, false≢true}
+use mathlib.Core.List.{List, []}
+use Prim.Native.Nat.{ℕ, zero, suc}
+use native.Mathlib.Omega.{arith}
+use lib.Dec.{leb, ltb}
+use lib.ListN.{length, take, drop}
+use borrow.Author.Tests.{leb-true, leb-false, le-ltb, lt-ltb}
+use Rattle.refusals.specs.Refusals.{unless, shape, shortRoom}
+use Rattle.records.specs.Pool.{Pool}
+use Rattle.records.specs.Sound.{sound}
+use Rattle.records.specs.Calls.{fit, admitOf, Left, leaves, freshPool, freshOf}
+use Rattle.blocks.proofs.KeepLaws.{admit-good, good-admit}
+use Rattle.reserve.specs.declared.Reserved.{Reserved}
+use Rattle.reserve.specs.Reserve.{refused, attempt, reserveOf}
+use Rattle.reserve.proofs.MeanLaws.{attempt-kept}
+use Rattle.release.specs.declared.Sized.{Sized}
+use Rattle.release.specs.declared.Spot.{Spot}
+use Rattle.release.specs.declared.Spot.the-variants.{Nowhere, Run, Slot}
+use Rattle.release.specs.Release.{spot, give, releaseOf, sized, sizeAt, sizeOf}
+use Rattle.release.proofs.MeanLaws.{give-kept}
+use Rattle.next.specs.declared.First.{First}
+use Rattle.next.specs.declared.First.the-variants.{At, Nothing}
+use Rattle.next.specs.declared.Next.{Next}
+use Rattle.next.specs.Next.{firstFrom, answered, answerOf, nextOf}
+use Rattle.blocks.specs.Blocks.{live}
+use Rattle.census.specs.declared.Counted.{Counted}
+use Rattle.census.specs.Census.{counted, list, censusOf}
+use Rattle.census.proofs.MeanLaws.{list-kept}
+use Rattle.totals.specs.declared.Sums.{Sums}
+use Rattle.totals.specs.Totals.{totalled, summed, totalsOf}
+use Rattle.bytes.specs.declared.Part.{Part}
+use Rattle.bytes.specs.Bytes.{chosen, bytesOf, bytesRefusalOf}
+use Rattle.bytes.proofs.PartLaws.{part-checked, part-kept}
+use Rattle.replay.specs.Run.{ended, runAll, runOf, replayed, replayOf}
+use Rattle.replay.proofs.MeanLaws.{numbers, unstarted, started, accepted, stopped}
+use Rattle.replay.proofs.PrefixLaws.{replay-prefix}
+use Rattle.lines.specs.Lines.{linesRoom, printed, telling, printedOf}
+use Rattle.demands.specs.Demand1.{Refuses, shapeOf, earOf, roomOf, Replays, Demand1}
+
+-- ---- the check
+
+module _ (c : ℕ) (p : Pool) where
+  check-unfit : (admitOf c p ≡ 1) ↔ (fit c p ≡ false)
+  unfolding admitOf
+  check-unfit = go (fit c p) (sound c p)
+    where
+      go : (v u : Bool) → (_≡_ {A = ℕ} (cond v (cond u 0 2) 1) 1) ↔ (v ≡ false)
+      go true true = (λ e. absurd (omega arith), λ e. absurd (false≢true (sym e)))
+      go true false = (λ e. absurd (omega arith), λ e. absurd (false≢true (sym e)))
+      go false u = (λ e. refl, λ e. refl)
+
+  check-unsound : (admitOf c p ≡ 2) ↔ ((fit c p ≡ true) × (sound c p ≡ false))
+  unfolding admitOf
+  check-unsound = go (fit c p) (sound c p)
+    where
+      go : (v u : Bool) → (_≡_ {A = ℕ} (cond v (cond u 0 2) 1) 2) ↔ ((v ≡ true) × (u ≡ false))
+      go true true = (λ e. absurd (omega arith), λ e. absurd (false≢true (sym (e .1))))
+      go true false = (λ e. (refl, refl), λ e. refl)
+      go false u = (λ e. absurd (omega arith), λ e. absurd (false≢true (e .0)))
+
+-- ---- calls that check first
+
+-- the work, behind the checks, gives and changes nothing where it refuses
+refuses-by : {A : Type 0} (first : ℕ) (number : A → ℕ) (nothing : ℕ → A) (work : A) → ((r : ℕ) → number (nothing r) ≡ r)
+    → ((r : ℕ) → number work ≡ suc r → work ≡ nothing (suc r)) → Refuses first number nothing (unless first nothing work)
+refuses-by zero number nothing work back kept = record { checked = λ r e. absurd (omega arith); unchanged = kept }
+refuses-by (suc n) number nothing work back kept =
+    record { checked = λ r e. ap nothing e; unchanged = λ r e. ap nothing (sym (back (suc n)) ∙ e) }
+
+size-kept : (x : Spot) (r : ℕ) → sizeAt x .refusal ≡ suc r → sizeAt x ≡ sized (suc r) 0
+size-kept (Nowhere n) r e = ap (λ (k : ℕ). sized k 0) e
+size-kept (Run g k) r e = absurd (omega arith)
+size-kept (Slot g b s) r e = absurd (omega arith)
+
+next-kept : (x : First) (r : ℕ) → answerOf x .refusal ≡ suc r → answerOf x ≡ answered (suc r) 0 0
+next-kept (At y z) r e = absurd (omega arith)
+next-kept Nothing r e = absurd (omega arith)
+
+module _ (c : ℕ) (p : Pool) where
+  fresh-refuses : Refuses (shapeOf c p) (λ x. x .answer) (λ r. leaves r p) (freshOf c p)
+  unfolding freshOf
+  fresh-refuses = go (fit c p)
+    where
+      go : (v : Bool) → Refuses (cond v 0 shape) (λ x. x .answer) (λ r. leaves r p) (cond v (leaves 0 (freshPool c)) (leaves shape p))
+      go true = record { checked = λ r e. absurd (omega arith); unchanged = λ r e. absurd (omega arith) }
+      go false = record { checked = λ r e. ap (λ (k : ℕ). leaves k p) e; unchanged = λ r e. ap (λ (k : ℕ). leaves k p) e }
+
+  reserve-refuses : (n : ℕ) → Refuses (admitOf c p) (λ x. x .answer .refusal) (λ r. leaves (refused r) p) (reserveOf c p n)
+  unfolding reserveOf
+  reserve-refuses n =
+      refuses-by (admitOf c p) (λ (x : Left Reserved Pool). x .answer .refusal) (λ r. leaves (refused r) p) (attempt c p n) (λ r. refl)
+      (attempt-kept c p n)
+
+  release-refuses : (q : ℕ) → Refuses (admitOf c p) (λ x. x .answer) (λ r. leaves r p) (releaseOf c p q)
+  unfolding releaseOf
+  release-refuses q =
+      refuses-by (admitOf c p) (λ (x : Left ℕ Pool). x .answer) (λ r. leaves r p) (give c p q) (λ r. refl) (give-kept c p q)
+
+  size-refuses : (q : ℕ) → Refuses (admitOf c p) (λ x. x .refusal) (λ r. sized r 0) (sizeOf c p q)
+  unfolding sizeOf
+  size-refuses q =
+      refuses-by (admitOf c p) (λ (x : Sized). x .refusal) (λ r. sized r 0) (sizeAt (spot c p q)) (λ r. refl) (size-kept (spot c p q))
+
+  next-refuses : (q : ℕ) → Refuses (admitOf c p) (λ x. x .refusal) (λ r. answered r 0 0) (nextOf c p q)
+  unfolding nextOf
+  next-refuses q =
+      refuses-by (admitOf c p) (λ (x : Next). x .refusal) (λ r. answered r 0 0) (answerOf (firstFrom q (live c p))) (λ r. refl)
+      (next-kept (firstFrom q (live c p)))
+
+  census-refuses : (room : List ℕ) → Refuses (admitOf c p) (λ x. x .answer .refusal) (λ r. leaves (counted r 0) room) (censusOf c p room)
+  unfolding censusOf
+  census-refuses room =
+      refuses-by (admitOf c p) (λ (x : Left Counted (List ℕ)). x .answer .refusal) (λ r. leaves (counted r 0) room) (list c p room) (λ r. refl)
+      (list-kept c p room)
+
+  totals-refuses : Refuses (admitOf c p) (λ x. x .refusal) (λ r. totalled r 0 0 0) (totalsOf c p)
+  unfolding totalsOf summed
+  totals-refuses =
+      refuses-by (admitOf c p) (λ (x : Sums). x .refusal) (λ r. totalled r 0 0 0) (summed c p) (λ r. refl) (λ r e. absurd (omega arith))
+
+module _ (ear c : ℕ) (p : Pool) (q : ℕ) (left right : List ℕ) where
+  bytes-refuses : Refuses (earOf ear c p left right) (λ (x : ℕ × List ℕ). x .0) (λ r. (r, []))
+      (bytesRefusalOf ear c p q left right, bytesOf ear c p q left right)
+  unfolding bytesRefusalOf bytesOf admitOf
+  bytes-refuses =
+      record {
+        checked = λ r e. ap cut (part-checked ear c p q (length left) (length right) r e);
+        unchanged = λ r e. ap cut (part-kept ear c p q (length left) (length right) r e);
+      }
+    where
+      cut : Part → ℕ × List ℕ
+      cut x = (x .refusal, take (x .size) (drop (x .start) (chosen ear left right)))
+
+-- ---- a replay
+
+module _ (c : ℕ) (p : Pool) (log : List ℕ) where
+  replay-checked : (r : ℕ) → shapeOf c p ≡ suc r → replayOf c p log ≡ leaves (replayed (suc r) 0) p
+  unfolding replayOf runOf
+  replay-checked r e = go (fit c p) e
+    where
+      go : (v : Bool) → _≡_ {A = ℕ} (cond v 0 shape) (suc r)
+          → leaves (replayed (cond v (runAll c p log) (ended shape 0 p) .refusal) (cond v (runAll c p log) (ended shape 0 p) .position))
+          (cond v (runAll c p log) (ended shape 0 p) .left) ≡ leaves (replayed (suc r) 0) p
+      go true f = absurd (omega arith)
+      go false f = ap (λ (k : ℕ). leaves (replayed k 0) p) f
+
+  shape-fit : shapeOf c p ≡ 0 → fit c p ≡ true
+  shape-fit e = go (fit c p) e
+    where
+      go : (v : Bool) → _≡_ {A = ℕ} (cond v 0 shape) 0 → v ≡ true
+      go true f = refl
+      go false f = absurd (omega arith)
+
+  replay-stands : Replays c p log
+  unfolding replayOf
+  replay-stands =
+      record {
+        checked = replay-checked;
+        number = λ e. numbers c p log (shape-fit e);
+        stand = λ r e. let (events, pool) = replay-prefix c p log r e in (sym pool, sym events);
+        position = stopped c p log;
+        accepted = accepted c p log;
+        unstarted = unstarted c p log;
+        started = λ e l h. admit-good c (runOf c p log .left) (started c p log e l h);
+      }
+
+  -- ---- its lines
+
+  module _ (out : List ℕ) where
+    lines-checked : (r : ℕ) → roomOf c p log out ≡ suc r → printedOf c p log out ≡ leaves (printed (suc r) 0 0) (p, out)
+    unfolding printedOf
+    lines-checked r e = go (fit c p) (leb (linesRoom (length log)) (length out)) refl e
+      where
+        go : (v u : Bool) → leb (linesRoom (length log)) (length out) ≡ u → _≡_ {A = ℕ} (cond v (cond u 0 shortRoom) shape) (suc r)
+            → cond v (cond (ltb (length out) (linesRoom (length log))) (leaves (printed shortRoom 0 0) (p, out)) (telling c (runOf c p log) out))
+            (leaves (printed shape 0 0) (p, out)) ≡ leaves (printed (suc r) 0 0) (p, out)
+        go true true f x = absurd (omega arith)
+        go true false f x = rw (lt-ltb _ _ (leb-false _ _ f)) (ap (λ (k : ℕ). leaves (printed k 0 0) (p, out)) x)
+        go false u f x = ap (λ (k : ℕ). leaves (printed k 0 0) (p, out)) x
+
+    lines-replay : roomOf c p log out ≡ 0
+        → (replayed (printedOf c p log out .answer .refusal) (printedOf c p log out .answer .position) ≡ replayOf c p log .answer)
+        × (printedOf c p log out .left .0 ≡ replayOf c p log .left)
+    unfolding printedOf replayOf telling
+    lines-replay e = go (fit c p) (leb (linesRoom (length log)) (length out)) refl e
+      where
+        go : (v u : Bool) → leb (linesRoom (length log)) (length out) ≡ u → _≡_ {A = ℕ} (cond v (cond u 0 shortRoom) shape) 0
+            → (let x = cond v (cond (ltb (length out) (linesRoom (length log))) (leaves (printed shortRoom 0 0) (p, out)) (telling c (runOf c p log) out))
+            (leaves (printed shape 0 0) (p, out)) in
+            (replayed (x .answer .refusal) (x .answer .position) ≡ replayOf c p log .answer) × (x .left .0 ≡ replayOf c p log .left))
+        go true true f x = rw (le-ltb _ _ (leb-true _ _ f)) (refl, refl)
+        go true false f x = absurd (omega arith)
+        go false u f x = absurd (omega arith)
+
+pub demand-1 : Demand1
+demand-1 =
+    record {
+      unfit = check-unfit;
+      unsound = check-unsound;
+      good = λ c p. (admit-good c p, good-admit c p);
+      fresh = fresh-refuses;
+      reserve = reserve-refuses;
+      release = release-refuses;
+      size = size-refuses;
+      next = next-refuses;
+      census = census-refuses;
+      totals = totals-refuses;
+      bytes = bytes-refuses;
+      replay = replay-stands;
+      lines-checked = lines-checked;
+      lines-replay = lines-replay;
+    }

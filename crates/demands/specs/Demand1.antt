@@ -1,0 +1,95 @@
+-- Demand 1 (RULES 11): "Whatever numbers, records or log bytes arrive, each call ends, stays inside the memory we lent and answers. A bad
+-- one gets its number, with place 0 and size 0, and what we lent is unchanged; in a log, the calls before a bad field stand."
+-- That each call ends, answers and stays inside what it is lent is no sentence of this file: it is what the gate proves of the code itself,
+-- function by function, and the calls ask nothing of their arguments. The rest stands here, of what the calls answer and leave, whatever
+-- they are given. Assumes nothing.
+use mathlib.Core.Path.{_≡_}
+use mathlib.Core.Logic.{_⊎_, _↔_}
+use mathlib.Core.Bool.{true, false}
+use mathlib.Core.List.{List, [], _∷_}
+use Prim.Native.Nat.{ℕ, suc}
+use lib.Dec.{leb}
+use lib.ListN.{length, take}
+use Rattle.refusals.specs.Refusals.{shape, damaged, shortRoom, cutLog, badField, firstOf}
+use Rattle.records.specs.Pool.{Pool}
+use Rattle.records.specs.Sound.{sound}
+use Rattle.records.specs.Calls.{fit, checks, admitOf, leaves, freshOf}
+use Rattle.blocks.specs.Stores.{Good}
+use Rattle.reserve.specs.Reserve.{refused, reserveOf}
+use Rattle.release.specs.Release.{releaseOf, sized, sizeOf}
+use Rattle.next.specs.Next.{answered, nextOf}
+use Rattle.census.specs.Census.{counted, censusOf}
+use Rattle.totals.specs.Totals.{totalled, totalsOf}
+use Rattle.bytes.specs.Bytes.{chosen, earFits, bytesOf, bytesRefusalOf}
+use Rattle.replay.specs.declared.Event.{Event}
+use Rattle.replay.specs.Run.{runOf, replayed, replayOf, bytesIn}
+use Rattle.lines.specs.Lines.{linesRoom, printed, printedOf}
+
+-- ---- a call that refuses
+
+-- A call answers and leaves x. `first` is the number of the first of its checks that does not hold (RULES 4.2), 0 where all hold; `number` is
+-- the number in x; `nothing r` is a refusal: r with all else 0 or empty, and what was lent as it was
+pub record Refuses {A : Type 0} (first : ℕ) (number : A → ℕ) (nothing : ℕ → A) (x : A) : Type 0 where
+  -- the first check that does not hold decides
+  pub checked : (r : ℕ) → first ≡ suc r → x ≡ nothing (suc r)
+  -- and whatever the number, nothing is given and nothing changed
+  pub unchanged : (r : ℕ) → number x ≡ suc r → x ≡ nothing (suc r)
+
+-- the shape of what is lent, and no more
+abbrev pub shapeOf : ℕ → Pool → ℕ
+shapeOf c p = firstOf ((fit c p, shape) ∷ [])
+
+-- the ear with its arena, then the shape and the records
+abbrev pub earOf : ℕ → ℕ → Pool → List ℕ → List ℕ → ℕ
+earOf ear c p left right = firstOf ((earFits ear c (chosen ear (length left) (length right)), shape) ∷ checks c p)
+
+-- the shape, then the room for the text
+abbrev pub roomOf : ℕ → Pool → List ℕ → List ℕ → ℕ
+roomOf c p log out = firstOf ((fit c p, shape) ∷ (leb (linesRoom (length log)) (length out), shortRoom) ∷ [])
+
+-- ---- a replay (RULES 8)
+
+pub record Replays (c : ℕ) (p : Pool) (log : List ℕ) : Type 0 where
+  -- 1 before the first byte; else 0, 8 or 9, and never 2
+  pub checked : (r : ℕ) → shapeOf c p ≡ suc r → replayOf c p log ≡ leaves (replayed (suc r) 0) p
+  pub number : shapeOf c p ≡ 0
+      → (replayOf c p log .answer .refusal ≡ 0)
+      ⊎ ((replayOf c p log .answer .refusal ≡ cutLog) ⊎ (replayOf c p log .answer .refusal ≡ badField))
+  -- the calls before a bad field stand: what is left is what the bytes before the position leave, and so are the calls with their answers
+  pub stand : (r : ℕ) → replayOf c p log .answer .refusal ≡ suc r
+      → (replayOf c p log .left ≡ replayOf c p (take (replayOf c p log .answer .position) log) .left)
+      × (runOf c p log .events ≡ runOf c p (take (replayOf c p log .answer .position) log) .events)
+  -- the calls are those of the bytes before the position, of all bytes where the log is accepted, at position 0
+  pub position : (r : ℕ) → replayOf c p log .answer .refusal ≡ suc r → bytesIn (runOf c p log .events) ≡ replayOf c p log .answer .position
+  pub accepted : replayOf c p log .answer .refusal ≡ 0
+      → (bytesIn (runOf c p log .events) ≡ length log) × (replayOf c p log .answer .position ≡ 0)
+  -- before an accepted start nothing changes; from it on the records are sound, whatever they were
+  pub unstarted : runOf c p log .events ≡ [] → replayOf c p log .left ≡ p
+  pub started : (e : Event) (l : List Event) → runOf c p log .events ≡ e ∷ l → Good c (replayOf c p log .left)
+
+-- ---- the claim
+
+pub record Demand1 : Type 0 where
+  -- check: 1 where the shape is not that of c chunks, then 2 where the records are damaged, else 0
+  pub unfit : (c : ℕ) (p : Pool) → (admitOf c p ≡ shape) ↔ (fit c p ≡ false)
+  pub unsound : (c : ℕ) (p : Pool) → (admitOf c p ≡ damaged) ↔ ((fit c p ≡ true) × (sound c p ≡ false))
+  pub good : (c : ℕ) (p : Pool) → (admitOf c p ≡ 0) ↔ Good c p
+  -- the other calls
+  pub fresh : (c : ℕ) (p : Pool) → Refuses (shapeOf c p) (λ x. x .answer) (λ r. leaves r p) (freshOf c p)
+  pub reserve : (c : ℕ) (p : Pool) (n : ℕ) → Refuses (admitOf c p) (λ x. x .answer .refusal) (λ r. leaves (refused r) p) (reserveOf c p n)
+  pub release : (c : ℕ) (p : Pool) (q : ℕ) → Refuses (admitOf c p) (λ x. x .answer) (λ r. leaves r p) (releaseOf c p q)
+  pub size : (c : ℕ) (p : Pool) (q : ℕ) → Refuses (admitOf c p) (λ x. x .refusal) (λ r. sized r 0) (sizeOf c p q)
+  pub next : (c : ℕ) (p : Pool) (q : ℕ) → Refuses (admitOf c p) (λ x. x .refusal) (λ r. answered r 0 0) (nextOf c p q)
+  pub census : (c : ℕ) (p : Pool) (room : List ℕ)
+      → Refuses (admitOf c p) (λ x. x .answer .refusal) (λ r. leaves (counted r 0) room) (censusOf c p room)
+  pub totals : (c : ℕ) (p : Pool) → Refuses (admitOf c p) (λ x. x .refusal) (λ r. totalled r 0 0 0) (totalsOf c p)
+  -- both calls, for the number and for the part
+  pub bytes : (ear c : ℕ) (p : Pool) (q : ℕ) (left right : List ℕ)
+      → Refuses (earOf ear c p left right) (λ (x : ℕ × List ℕ). x .0) (λ r. (r, [])) (bytesRefusalOf ear c p q left right, bytesOf ear c p q left right)
+  pub replay : (c : ℕ) (p : Pool) (log : List ℕ) → Replays c p log
+  -- lines: 1 or 7, else what a replay answers and leaves
+  pub lines-checked : (c : ℕ) (p : Pool) (log out : List ℕ) (r : ℕ) → roomOf c p log out ≡ suc r
+      → printedOf c p log out ≡ leaves (printed (suc r) 0 0) (p, out)
+  pub lines-replay : (c : ℕ) (p : Pool) (log out : List ℕ) → roomOf c p log out ≡ 0
+      → (replayed (printedOf c p log out .answer .refusal) (printedOf c p log out .answer .position) ≡ replayOf c p log .answer)
+      × (printedOf c p log out .left .0 ≡ replayOf c p log .left)

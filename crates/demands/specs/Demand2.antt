@@ -1,0 +1,138 @@
+-- Demand 2 (RULES 11): sizes, places and refusals follow the rules. "The smallest class that holds the request, the lowest free slot of
+-- that class, otherwise the shortest gap that is long enough in the first chunk that has one. "No room" is answered exactly when neither
+-- exists. A freed slot serves its class again; the pages of a freed run count as free for any request."
+-- It is said of what the calls answer and leave, on sound records, for every number of chunks, size and place. Assumes nothing.
+use mathlib.Core.Path.{_≡_}
+use mathlib.Core.Logic.{_≢_, _↔_}
+use mathlib.Core.Bool.{Bool, true, false}
+use mathlib.Core.List.{List, _++_, List·Memᴰ}
+use Prim.Native.Nat.{ℕ, suc, _+_, _*_, _≤_, _<_}
+use lib.ListN.{length, take, drop}
+use Rattle.refusals.specs.Refusals.{tooBig, noRoom, noBlock, freeSlot, shortRoom}
+use Rattle.classes.specs.Classes.{pages, Smallest}
+use Rattle.records.specs.declared.Kind.the-variants.{Free, Large, Class}
+use Rattle.records.specs.Kinds.{zeros, wordsOf}
+use Rattle.records.specs.Pool.{Pool, kindAt}
+use Rattle.records.specs.Calls.{Left, leaves}
+use Rattle.gaps.specs.Gaps.{HoldsNone, IsPlace}
+use Rattle.blocks.specs.Blocks.{Block, block, slotBlock, runBlock, IsSlot, IsLarge, live}
+use Rattle.blocks.specs.Stores.{putRun, putSlot, Good, Gains, Loses}
+use Rattle.reserve.specs.declared.Reserved.{Reserved}
+use Rattle.reserve.specs.Reserve.{refused, slotGiven, runGiven, reserveOf}
+use Rattle.release.specs.Release.{releaseOf, sized, sizeOf}
+use Rattle.next.specs.declared.Next.{Next}
+use Rattle.next.specs.Next.{answered, nextOf}
+use Rattle.census.specs.Census.{wordsFor, counted, censusOf}
+use Rattle.totals.specs.Totals.{given, runPages, totalled, totalsOf}
+use Rattle.bytes.specs.Bytes.{chosen, earFits, bytesOf, bytesRefusalOf}
+
+-- ---- reserve (RULES 5.2)
+
+-- the free slot of class b with the lowest place: slot s of the run at page g
+pub record LowestSlot (c : ℕ) (p : Pool) (b g s : ℕ) : Type 0 where
+  pub is : IsSlot c p g b s false
+  pub lowest : (f t : ℕ) → IsSlot c p f b t false → slotBlock g b s .place ≤ slotBlock f b t .place
+
+-- no slot of class b is free
+abbrev pub NoSlot : ℕ → Pool → ℕ → Type 0
+NoSlot c p b = (g s : ℕ) → IsSlot c p g b s false → ⊥
+
+-- no chunk has a gap of k pages or more
+abbrev pub NoGap : ℕ → List ℕ → ℕ → Type 0
+NoGap c bits k = (i : ℕ) → i < c → HoldsNone bits i k
+
+-- k pages hold n bytes, and no fewer do
+pub record Fewest (n k : ℕ) : Type 0 where
+  pub holds : n ≤ 4096 * k
+  pub fewer : (j : ℕ) → j < k → 4096 * j < n
+
+-- what a reserve of n bytes answers and leaves, a line for each rule. `IsPlace c bits k g`: page g is the first of the shortest gap of at
+-- least k pages in the first chunk that has one
+pub data Reserves (c : ℕ) (p : Pool) (n : ℕ) : Left Reserved Pool → Type 0 where
+  -- a slot of the smallest class that holds n bytes: the lowest that is free
+  lowest-slot : (b g s : ℕ) → n ≤ 3072 → Smallest n b → LowestSlot c p b g s → Reserves c p n (leaves (slotGiven g b s) (putSlot 1 p g s))
+  -- where none is free, slot 0 of a new run
+  new-run : (b g : ℕ) → n ≤ 3072 → Smallest n b → NoSlot c p b → IsPlace c (p .bits) (pages b) g
+      → Reserves c p n (leaves (slotGiven g b 0) (putSlot 1 (putRun 1 p g (wordsOf (Class b))) g 0))
+  -- neither
+  no-slot : (b : ℕ) → n ≤ 3072 → Smallest n b → NoSlot c p b → NoGap c (p .bits) (pages b) → Reserves c p n (leaves (refused noRoom) p)
+  -- a large run of the fewest pages that hold n bytes
+  large-run : (k g : ℕ) → 3072 < n → n ≤ 2093056 → Fewest n (suc k) → IsPlace c (p .bits) (suc k) g
+      → Reserves c p n (leaves (runGiven g (suc k)) (putRun 1 p g (wordsOf (Large k))))
+  -- no gap for it
+  no-run : (k : ℕ) → 3072 < n → n ≤ 2093056 → Fewest n (suc k) → NoGap c (p .bits) (suc k) → Reserves c p n (leaves (refused noRoom) p)
+  -- too big
+  too-big : 2093056 < n → Reserves c p n (leaves (refused tooBig) p)
+
+-- the block that an answer names
+abbrev pub blockOf : Reserved → Block
+blockOf r = block (r .place) (r .size)
+
+-- ---- release (RULES 3.7, 5.4)
+
+-- what a release of the place q answers and leaves
+pub data Releases (c : ℕ) (p : Pool) (q : ℕ) : Left ℕ Pool → Type 0 where
+  -- a large run starts there: its pages are free pages
+  run-there : (g k : ℕ) → IsLarge c p g k → runBlock g k .place ≡ q → Releases c p q (leaves 0 (putRun 0 p g (zeros (suc k))))
+  -- a taken slot starts there: it is a free slot
+  slot-taken : (g b s : ℕ) → IsSlot c p g b s true → slotBlock g b s .place ≡ q → Releases c p q (leaves 0 (putSlot 0 p g s))
+  -- a free slot starts there
+  slot-free : (g b s : ℕ) → IsSlot c p g b s false → slotBlock g b s .place ≡ q → Releases c p q (leaves freeSlot p)
+  -- nothing starts there
+  nothing : ((g k : ℕ) → IsLarge c p g k → runBlock g k .place ≢ q)
+      → ((g b s : ℕ) (taken : Bool) → IsSlot c p g b s taken → slotBlock g b s .place ≢ q) → Releases c p q (leaves noBlock p)
+
+-- ---- next (RULES 6.3)
+
+-- what it answers for the place q
+pub data Nexts (c : ℕ) (p : Pool) (q : ℕ) : Next → Type 0 where
+  -- the live block with the lowest place at or above q
+  next-block : (b : Block) → List·Memᴰ b (live c p) → q ≤ b .place → ((x : Block) → List·Memᴰ x (live c p) → q ≤ x .place → b .place ≤ x .place)
+      → Nexts c p q (answered 0 (b .place) (b .size))
+  -- there is none
+  no-block : ((x : Block) → List·Memᴰ x (live c p) → x .place < q) → Nexts c p q (answered 0 0 0)
+
+-- ---- the claim
+
+-- of a sound pool p of c chunks
+pub record Follows (c : ℕ) (p : Pool) : Type 0 where
+  -- A reserve answers and leaves what a rule says, and whatever a rule says is what it answers and leaves. So the rules cover every size,
+  -- and no two of them overlap; 3 is answered exactly above 2,093,056 bytes, and 4 exactly where neither a slot nor a gap is there
+  pub reserve : (n : ℕ) (x : Left Reserved Pool) → Reserves c p n x ↔ (reserveOf c p n ≡ x)
+  -- what is served holds the request, and is put into the live blocks; they are the same otherwise
+  pub holds : (n : ℕ) → reserveOf c p n .answer .refusal ≡ 0 → n ≤ reserveOf c p n .answer .size
+  pub gains : (n : ℕ) → reserveOf c p n .answer .refusal ≡ 0 → Gains c p (reserveOf c p n .left) (blockOf (reserveOf c p n .answer))
+  -- so a release, over every place
+  pub release : (q : ℕ) (x : Left ℕ Pool) → Releases c p q x ↔ (releaseOf c p q ≡ x)
+  -- it is served exactly where a live block has the place, and takes that one out of the live blocks
+  pub served : (q : ℕ) → (releaseOf c p q .answer ≡ 0) ↔ ((b : Block) × List·Memᴰ b (live c p) × (b .place ≡ q))
+  pub loses : (q : ℕ) → releaseOf c p q .answer ≡ 0 → (b : Block) × (b .place ≡ q) × Loses c p (releaseOf c p q .left) b
+  -- a freed slot serves its class again: a reserve of that class that follows is served, there or lower
+  pub again : (g b s : ℕ) → IsSlot c p g b s true → (n : ℕ) → Smallest n b → (x : Left Reserved Pool)
+      → x ≡ reserveOf c (releaseOf c p (slotBlock g b s .place) .left) n
+      → (x .answer .refusal ≡ 0) × (x .answer .place ≤ slotBlock g b s .place)
+  -- the pages of a freed run are free
+  pub freed : (g k : ℕ) → IsLarge c p g k → (i : ℕ) → g ≤ i → i < g + suc k → kindAt (releaseOf c p (runBlock g k .place) .left) i ≡ Free
+  -- block size gives the size of each live block, and is refused where a release is
+  pub size : (b : Block) → List·Memᴰ b (live c p) → sizeOf c p (b .place) ≡ sized 0 (b .size)
+  pub unsized : (q r : ℕ) → releaseOf c p q .answer ≡ suc r → sizeOf c p q ≡ sized (suc r) 0
+  -- next answers what its rules say
+  pub next : (q : ℕ) (x : Next) → Nexts c p q x ↔ (nextOf c p q ≡ x)
+  -- a census with room for two words a live block writes place and size of each, by rising place, and answers their count; the words behind
+  -- are as they were. With less room: 7
+  pub census : (room : List ℕ) → 2 * length (live c p) ≤ length room
+      → censusOf c p room ≡ leaves (counted 0 (length (live c p))) (wordsFor (live c p) ++ drop (2 * length (live c p)) room)
+  pub short : (room : List ℕ) → length room < 2 * length (live c p) → censusOf c p room ≡ leaves (counted shortRoom 0) room
+  -- totals: how many live blocks there are, and their bytes; each page is free, in a run, or page 0 of its chunk
+  pub totals : totalsOf c p ≡ totalled 0 (length (live c p)) (given (live c p)) (totalsOf c p .free)
+  pub pages : totalsOf c p .free + runPages c p + c ≡ 512 * c
+  -- bytes: where the ear fits, each live block's own part of the chosen arena, whole; refused where a release is
+  pub bytes : (ear : ℕ) (left right : List ℕ) → earFits ear c (chosen ear (length left) (length right)) ≡ true → (b : Block) → List·Memᴰ b (live c p)
+      → (bytesRefusalOf ear c p (b .place) left right ≡ 0)
+      × (bytesOf ear c p (b .place) left right ≡ take (b .size) (drop (b .place) (chosen ear left right)))
+      × (length (bytesOf ear c p (b .place) left right) ≡ b .size)
+  pub partless : (ear : ℕ) (left right : List ℕ) → earFits ear c (chosen ear (length left) (length right)) ≡ true → (q r : ℕ)
+      → releaseOf c p q .answer ≡ suc r → bytesRefusalOf ear c p q left right ≡ suc r
+
+abbrev pub Demand2 : Type 0
+Demand2 = (c : ℕ) (p : Pool) → Good c p → Follows c p

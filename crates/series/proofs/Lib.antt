@@ -1,3 +1,0 @@
-pub mod BookLaws
-pub mod KeepLaws
-pub mod ClaimLaws
