@@ -127,7 +127,9 @@ static void make_half(size_t c)
  * release can be timed apart. The run of a slot stands. */
 static void set_slot(const struct lensember_reserved *block, bool taken)
 {
-    uint64_t *word = &slots[SLOT_WORDS / PAGES * block->first_page + block->slot / 64];
+    uint64_t chunk = block->place / (PAGES * 4096);
+    uint64_t page = PAGES * chunk + block->first_page;
+    uint64_t *word = &slots[SLOT_WORDS / PAGES * page + block->slot / 64];
     uint64_t bit = UINT64_C(1) << block->slot % 64;
 
     *word = taken ? *word | bit : *word & ~bit;

@@ -117,7 +117,7 @@ struct lensember_reserved {
     uint64_t size;         /* bytes given: those asked for, or a few more */
     uint64_t kind;         /* LENSEMBER_NOTHING, LENSEMBER_SLOT or LENSEMBER_RUN */
     uint64_t class_number; /* of a slot: its size class, 0 to 29 */
-    uint64_t first_page;   /* of a slot: its run's first page, 512 * chunk + page */
+    uint64_t first_page;   /* of a slot: its run's first page in its chunk, 1 to 511 */
     uint64_t slot;         /* of a slot: its number in the run, from 0 */
     uint64_t pages;        /* of a page run: how many */
 };

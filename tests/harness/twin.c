@@ -145,9 +145,11 @@ struct pool_reserved twin_reserve(struct twin *twin, uint64_t size)
 
     expect(same_reserved(&answer, &right),
            "c %zu call %lu, reserve %" PRIu64 ": answer %" PRIu64 " at %" PRIu64 " size %" PRIu64
-           " kind %" PRIu64 ", the model says %" PRIu64 " at %" PRIu64 " size %" PRIu64 " kind %d",
+           " kind %" PRIu64 " page %" PRIu64 ", the model says %" PRIu64 " at %" PRIu64
+           " size %" PRIu64 " kind %d page %" PRIu64,
            twin->model.c, twin->calls, size, answer.refusal, answer.place, answer.size,
-           answer.kind, right.refusal, right.place, right.size, (int)right.kind);
+           answer.kind, answer.first_page, right.refusal, right.place, right.size,
+           (int)right.kind, right.first_page);
     count_answer(answers.reserve, answer.refusal);
     compare_records(twin, "reserve", size);
     return right;

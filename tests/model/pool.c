@@ -208,7 +208,7 @@ static struct pool_reserved reserve_slot(struct pool *pool, unsigned b)
     answer.size = size_classes[b].size;
     answer.kind = BLOCK_SLOT;
     answer.class_number = b;
-    answer.first_page = PAGES * chunk + run->first;
+    answer.first_page = run->first;
     answer.slot = slot;
     return answer;
 }

@@ -1,6 +1,6 @@
 -- The answer of a reserve, and the call behind the check, as the code makes them. Assumes nothing.
 use mathlib.Core.Path.{_≡_, sym, ap, ap₂, _∙_, subst}
-use Prim.Native.Nat.{ℕ, suc, _+_, _*_, _≤_, _<_}
+use Prim.Native.Nat.{ℕ, suc, _+_, _*_, _%_, _≤_, _<_}
 use native.Mathlib.Nat.{mul-le-mul}
 use native.Mathlib.Omega.{arith}
 use Rattle.refusals.proofs.CallLaws.{refused, served}
@@ -28,7 +28,7 @@ slot-room {b} {s} {n} {z} l h e f =
     let m = mul-le-mul {n₁ = n} {m₁ = z} {n₂ = 511} {m₂ = 3072} (omega arith) (omega arith) in omega arith
 
 pub slot-is : {g b s k f n z : ℕ} → k ≡ b → f ≡ g → n ≡ s → z ≡ size b
-    → record { refusal = 0; place = 4096 * f + n * z; size = z; kind = Slot (record { class = k; first = f; number = n }) } ≡ slotGiven g b s
+    → record { refusal = 0; place = 4096 * f + n * z; size = z; kind = Slot (record { class = k; first = f % 512; number = n }) } ≡ slotGiven g b s
 slot-is e f g h = cc
 
 pub large-is : {g k f m : ℕ} → f ≡ g → m ≡ k + 1 → record { refusal = 0; place = 4096 * f; size = 4096 * m; kind = Run m } ≡ answer (NewLarge g k)

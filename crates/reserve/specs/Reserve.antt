@@ -1,7 +1,7 @@
 -- Reserve (RULES 5.2): what is looked for, what is stored, what is answered. Assumes nothing.
 use mathlib.Core.Bool.{Bool, cond, _&&_}
 use mathlib.Core.List.{List}
-use Prim.Native.Nat.{ℕ, zero, suc, _+_, _-_, _*_, _/_}
+use Prim.Native.Nat.{ℕ, zero, suc, _+_, _-_, _*_, _/_, _%_}
 use lib.Dec.{ltb, leb}
 use Rattle.refusals.specs.Refusals.{unless, noRoom, tooBig}
 use Rattle.bitrow.specs.Row.{nextBit}
@@ -77,10 +77,10 @@ perform p (NewLarge g k) = putRun 1 p g (wordsOf (Large k))
 abbrev pub refused : ℕ → Reserved
 refused r = record { refusal = r; place = 0; size = 0; kind = None }
 
--- slot s of the run of class b at page g
+-- slot s of the run of class b at page g, which is page g % 512 of its chunk
 abbrev pub slotGiven : ℕ → ℕ → ℕ → Reserved
 slotGiven g b s =
-    record { refusal = 0; place = 4096 * g + s * size b; size = size b; kind = Slot (record { class = b; first = g; number = s }) }
+    record { refusal = 0; place = 4096 * g + s * size b; size = size b; kind = Slot (record { class = b; first = g % 512; number = s }) }
 
 -- a large run of n pages at page g
 abbrev pub runGiven : ℕ → ℕ → Reserved

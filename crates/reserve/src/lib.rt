@@ -21,7 +21,7 @@ pub enum Plan {
     NewLarge(usize, usize),
 }
 
-// A slot: its class, the first page of its run (counted through the pool), and its number in the run.
+// A slot: its class, the first page of its run, as a page of its chunk, and its number in the run.
 pub struct SlotAt {
     pub class: u64,
     pub first: u64,
@@ -214,16 +214,16 @@ pub fn slot_given(g: usize, b: usize, s: usize, bytes: u64) -> Reserved
     requires { ⌜ ((g < 8192) × (b < 30) × (s < 512)) × (bytes ≡ size b) ⌝ }
     ensures { λ r. ⌜ r ≡ slotGiven g b s ⌝ }
 {
-    let first = widths::wide64(g);
+    let page = widths::wide64(g);
     let number = widths::wide64(s);
     let slot = SlotAt {
         class: widths::wide64(b),
-        first: first,
+        first: page % 512,
         number: number,
     };
     Reserved {
         refusal: 0,
-        place: 4096 * first + number * bytes,
+        place: 4096 * page + number * bytes,
         size: bytes,
         kind: Given::Slot(slot),
     }
