@@ -1,18 +1,20 @@
 -- The choice among a chunk's gaps: it is the shortest gap that holds n pages, the lowest on a tie, and there is none where no gap holds them.
+-- The chunks in turn: the first that has such a gap gives it.
 -- Assumes nothing.
-use mathlib.Core.Path.{_≡_, refl, sym, ap, subst}
+use mathlib.Core.Path.{_≡_, refl, sym, ap, _∙_, subst}
 use mathlib.Core.Logic.{_⊎_, inl, inr, ⊎-elim}
 use mathlib.Core.Bool.{Bool, cond}
 use mathlib.Core.List.{List, [], _∷_}
-use Prim.Native.Nat.{ℕ, _≤_, _<_}
+use Prim.Native.Nat.{ℕ, suc, _+_, _-_, _≤_, _<_}
+use native.Mathlib.Nat.{sub-zero}
 use native.Mathlib.Omega.{arith}
 use borrow.Author.Tests.{lt-ltb, le-ltb}
 use Rattle.bitrow.proofs.Rows.{lt-or-ge}
 use Rattle.gaps.specs.declared.Gap.{Gap}
 use Rattle.gaps.specs.declared.Found.{Found}
 use Rattle.gaps.specs.declared.Found.the-variants.{At, Nothing}
-use Rattle.gaps.specs.Gaps.{gapsOf, noGap, shortest, foundAt, findInChunk, IsBest, HoldsNone}
-use Rattle.gaps.proofs.Scan.{better-took, better-short, better-kept}
+use Rattle.gaps.specs.Gaps.{gapsOf, noGap, shortest, foundAt, findInChunk, orElse, findFrom, findPages, IsBest, HoldsNone}
+use Rattle.gaps.proofs.Scan.{better-took, better-short, better-kept, found-at, found-nothing}
 use Rattle.gaps.proofs.Listed.{In, listed-gap, gap-listed, Rising, gaps-rise}
 
 -- y is the shortest of best and the gaps of xs that hold n pages, and the first of those
@@ -106,3 +108,43 @@ module _ (bits : List ℕ) (k n : ℕ) where
   pub chunk-means : InChunk bits k n (findInChunk bits k n)
   unfolding findInChunk
   chunk-means = answered (shortest n noGap (gapsOf bits k)) (shortest-chosen n (gapsOf bits k) noGap (gaps-rise bits k))
+
+-- ---- the turns of the search in a pool: there is no best gap yet or there is one, and it or else the chunks from k on give what all chunks
+-- give
+
+pub record Sought (bits : List ℕ) (n c k : ℕ) (best : Gap) : Type 0 where
+  pub known : (best ≡ noGap) ⊎ (best .len < 512)
+  pub gives : orElse (foundAt best) (findFrom bits n k (c - k)) ≡ findPages c bits n
+
+module _ (bits : List ℕ) (n c : ℕ) where
+  pub sought-start : Sought bits n c 0 noGap
+  unfolding findPages
+  sought-start = record { known = inl refl; gives = ap (findFrom bits n 0) (sub-zero c) }
+
+  -- with no gap so far, chunk k gives what it gives by itself
+  module _ (k : ℕ) (best next : Gap) (l : k < c) (h : 512 ≤ best .len) (e : next ≡ shortest n best (gapsOf bits k)) (s : Sought bits n c k best) where
+    alone : next ≡ shortest n noGap (gapsOf bits k)
+    alone = e ∙ ap (λ (b : Gap). shortest n b (gapsOf bits k)) (⊎-elim (λ z. z) (λ z. absurd (omega arith)) (s .known))
+
+    step : orElse (foundAt next) (findFrom bits n (k + 1) (c - (k + 1))) ≡ findFrom bits n k (c - k)
+    unfolding findFrom findInChunk
+    step =
+        let more : suc (c - (k + 1)) ≡ c - k = omega arith in
+        ap (λ (x : Gap). orElse (foundAt x) (findFrom bits n (k + 1) (c - (k + 1)))) alone ∙ ap (findFrom bits n k) more
+
+    pub sought-turn : Sought bits n c (k + 1) next
+    sought-turn = record {
+      known = subst (λ (x : Gap). (x ≡ noGap) ⊎ (x .len < 512)) (sym alone)
+          (⊎-elim (λ z. inl z) (λ z. inr (z .2)) (shortest-chosen n (gapsOf bits k) noGap (gaps-rise bits k) .from));
+      gives = step ∙ sym (ap (λ (f : Found). orElse f (findFrom bits n k (c - k))) (found-nothing best h)) ∙ s .gives;
+    }
+
+  module _ (k : ℕ) (best : Gap) (s : Sought bits n c k best) where
+    pub sought-at : best .len < 512 → At (best .at) ≡ findPages c bits n
+    sought-at l = sym (ap (λ (f : Found). orElse f (findFrom bits n k (c - k))) (found-at best l)) ∙ s .gives
+
+    pub sought-none : c ≤ k → 512 ≤ best .len → Nothing ≡ findPages c bits n
+    unfolding findFrom
+    sought-none l h =
+        let none : 0 ≡ c - k = omega arith in
+        ap (findFrom bits n k) none ∙ sym (ap (λ (f : Found). orElse f (findFrom bits n k (c - k))) (found-nothing best h)) ∙ s .gives

@@ -1,4 +1,4 @@
--- Laws of the search: a chunk is read from gap to gap, each gap is compared with the best before it, and each chunk comes after those before.
+-- Laws of the search in a chunk: it is read from gap to gap, and each gap is compared with the best before it.
 -- Assumes nothing.
 use mathlib.Core.Path.{_≡_, refl, sym, ap, ap₂, _∙_, subst}
 use mathlib.Core.Logic.{_⊎_, ⊎-elim}
@@ -13,9 +13,8 @@ use Rattle.bitrow.specs.Row.{bitAt, nextBit}
 use Rattle.bitrow.proofs.Words.{v-or-other}
 use Rattle.bitrow.proofs.Rows.{bit-at-le, First, first-at}
 use Rattle.gaps.specs.declared.Gap.{Gap}
-use Rattle.gaps.specs.declared.Found.{Found}
 use Rattle.gaps.specs.declared.Found.the-variants.{At, Nothing}
-use Rattle.gaps.specs.Gaps.{gap, withGap, gapsFrom, gapsOf, noGap, better, shortest, foundAt, findInChunk, orElse, findFrom, NextGap}
+use Rattle.gaps.specs.Gaps.{gap, withGap, gapsFrom, gapsOf, better, shortest, foundAt, NextGap}
 
 pub free-or-taken : (bits : List ℕ) (g : ℕ) → (bitAt bits g ≡ 0) ⊎ (bitAt bits g ≡ 1)
 free-or-taken bits g = v-or-other 0 (bitAt bits g) (lit< tt) (omega (arith, bit-at-le bits g))
@@ -133,19 +132,20 @@ unfolding shortest
 shortest-with n a zero best others h = ap (λ (b : Gap). shortest n b others) (sym (better-short n (gap a 0) best h))
 shortest-with n a (suc l) best others h = refl
 
--- ---- the turns of the search in chunk k: the shortest of the best gap so far and the gaps from p on is that of all gaps of the chunk
+-- ---- the turns of the search in chunk k: the shortest of the best gap so far and the gaps from p on is that of the gap before and all gaps
+-- of the chunk
 
-abbrev pub Best : List ℕ → ℕ → ℕ → ℕ → ℕ → Gap → Type 0
-Best bits k n e p best = shortest n best (gapsFrom bits p (e - p) 0) ≡ shortest n noGap (gapsOf bits k)
+abbrev pub Best : List ℕ → ℕ → ℕ → Gap → ℕ → ℕ → Gap → Type 0
+Best bits k n before e p best = shortest n best (gapsFrom bits p (e - p) 0) ≡ shortest n before (gapsOf bits k)
 
-pub best-start : (bits : List ℕ) (k n e p : ℕ) → p ≡ 512 * k + 1 → e ≡ 512 * k + 512 → Best bits k n e p noGap
+pub best-start : (bits : List ℕ) (k n e p : ℕ) (before : Gap) → p ≡ 512 * k + 1 → e ≡ 512 * k + 512 → Best bits k n before e p before
 unfolding gapsOf
-best-start bits k n e p a b =
-    ap₂ (λ (x m : ℕ). shortest n noGap (gapsFrom bits x m 0)) a (omega arith)
+best-start bits k n e p before a b =
+    ap₂ (λ (x m : ℕ). shortest n before (gapsFrom bits x m 0)) a (omega arith)
 
-pub best-turn : (bits : List ℕ) (k n e p d : ℕ) (x best next : Gap) → 1 ≤ n → NextGap bits p d x → d ≡ e → next ≡ better n x best
-    → Best bits k n e p best → Best bits k n e (x .at + x .len) next
-best-turn bits k n e p d x best next h g same en inv =
+pub best-turn : (bits : List ℕ) (k n e p d : ℕ) (x before best next : Gap) → 1 ≤ n → NextGap bits p d x → d ≡ e → next ≡ better n x best
+    → Best bits k n before e p best → Best bits k n before e (x .at + x .len) next
+best-turn bits k n e p d x before best next h g same en inv =
     let g : NextGap bits p e x = subst (λ (y : ℕ). NextGap bits p y x) same g in
     let q : ℕ = x .at + x .len in
     ap (λ (y : Gap). shortest n y (gapsFrom bits q (e - q) 0)) en
@@ -153,32 +153,17 @@ best-turn bits k n e p d x best next h g same en inv =
     ∙ ap (shortest n best) (sym (g .gaps))
     ∙ inv
 
-module _ (bits : List ℕ) (k n e p : ℕ) (best : Gap) (end : e ≤ p) (inv : Best bits k n e p best) where
-  answer : findInChunk bits k n ≡ foundAt best
-  unfolding findInChunk gapsFrom shortest
-  answer =
-      let none : e - p ≡ 0 = omega arith in
-      ap foundAt (sym inv ∙ ap (λ (m : ℕ). shortest n best (gapsFrom bits p m 0)) none)
+pub best-done : (bits : List ℕ) (k n e p : ℕ) (before best : Gap) → e ≤ p → Best bits k n before e p best
+    → best ≡ shortest n before (gapsOf bits k)
+unfolding gapsFrom shortest
+best-done bits k n e p before best end inv =
+    let none : 0 ≡ e - p = omega arith in ap (λ (m : ℕ). shortest n best (gapsFrom bits p m 0)) none ∙ inv
 
-  pub best-at : best .len < 512 → At (best .at) ≡ findInChunk bits k n
-  best-at l = sym (answer ∙ ap (λ (b : Bool). cond b (At (best .at)) Nothing) (lt-ltb (best .len) 512 l))
+-- ---- what the best gap gives
 
-  pub best-none : 512 ≤ best .len → Nothing ≡ findInChunk bits k n
-  best-none l = sym (answer ∙ ap (λ (b : Bool). cond b (At (best .at)) Nothing) (le-ltb (best .len) 512 l))
+module _ (best : Gap) where
+  pub found-at : best .len < 512 → foundAt best ≡ At (best .at)
+  found-at l = ap (λ (b : Bool). cond b (At (best .at)) Nothing) (lt-ltb (best .len) 512 l)
 
--- ---- the turns of the search in a pool: the chunks from k on give what all chunks give
-
-module _ (bits : List ℕ) (n k c : ℕ) where
-  step : k < c → findFrom bits n k (c - k) ≡ orElse (findInChunk bits k n) (findFrom bits n (k + 1) (c - (k + 1)))
-  unfolding findFrom
-  step l = let more : c - k ≡ suc (c - (k + 1)) = omega arith in ap (findFrom bits n k) more
-
-  pub found-here : (g : ℕ) → k < c → At g ≡ findInChunk bits k n → At g ≡ findFrom bits n k (c - k)
-  found-here g l e = ap (λ (f : Found). orElse f (findFrom bits n (k + 1) (c - (k + 1)))) e ∙ sym (step l)
-
-  pub found-behind : k < c → Nothing ≡ findInChunk bits k n → findFrom bits n (k + 1) (c - (k + 1)) ≡ findFrom bits n k (c - k)
-  found-behind l e = ap (λ (f : Found). orElse f (findFrom bits n (k + 1) (c - (k + 1)))) e ∙ sym (step l)
-
-  pub found-none : c ≤ k → Nothing ≡ findFrom bits n k (c - k)
-  unfolding findFrom
-  found-none l = let none : 0 ≡ c - k = omega arith in ap (findFrom bits n k) none
+  pub found-nothing : 512 ≤ best .len → foundAt best ≡ Nothing
+  found-nothing l = ap (λ (b : Bool). cond b (At (best .at)) Nothing) (le-ltb (best .len) 512 l)

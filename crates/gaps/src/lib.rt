@@ -3,7 +3,7 @@
 ghost use mathlib.Core.Path.{_≡_};
 ghost use Prim.Native.Nat.{_+_, _*_, _≤_, _<_};
 ghost use lib.ListN.{length};
-ghost use Rattle.gaps.specs.Gaps.{endOf, NextGap, better, findInChunk, findPages, GapsMean};
+ghost use Rattle.gaps.specs.Gaps.{endOf, NextGap, better, shortest, gapsOf, findPages, GapsMean};
 
 // A gap: its first page, counted through the pool, and its number of pages.
 pub struct Gap {
@@ -40,29 +40,25 @@ fn better_gap(best: Gap, n: usize, x: Gap) -> Gap
     best
 }
 
-// The first page of the shortest gap of chunk k that holds n pages. A length of 512 stands for no gap, and page 0 is in none.
-fn find_in_chunk(bits: &[u64], k: usize, n: usize) -> Found
+// The shortest of the gap before and those gaps of chunk k that hold n pages. Page 0 is in none.
+fn best_in_chunk(bits: &[u64], k: usize, n: usize, before: Gap) -> Gap
     requires long { ⌜ 8 * k + 8 ≤ length (now bits) ⌝ }
     requires low { ⌜ k < 16 ⌝ }
     requires some { ⌜ 1 ≤ n ⌝ }
-    ensures { λ r. ⌜ r ≡ findInChunk (now (bits .entry)) k n ⌝ }
+    ensures { λ r. ⌜ r ≡ shortest n before (gapsOf (now (bits .entry)) k) ⌝ }
 {
     let to = 512 * k + 512;
     let mut p = 512 * k + 1;
-    let mut best = Gap { at: 0, len: 512 };
+    let mut best = before;
     while p < to {
         let x = next_gap(bits, p);
         best = better_gap(best, n, x);
         p = x.at + x.len;
     }
-    if best.len < 512 {
-        Found::At(best.at)
-    } else {
-        Found::Nothing
-    }
+    best
 }
 
-// The first page of n pages, in the first of c chunks that has them.
+// The first page of n pages, in the first of c chunks that has them. A length of 512 stands for no gap.
 pub fn find_pages(c: usize, bits: &[u64], n: usize) -> Found
     requires long { ⌜ 8 * c ≤ length (now bits) ⌝ }
     requires few { ⌜ c ≤ 16 ⌝ }
@@ -70,17 +66,16 @@ pub fn find_pages(c: usize, bits: &[u64], n: usize) -> Found
     ensures { λ r. ⌜ r ≡ findPages c (now (bits .entry)) n ⌝ }
 {
     let mut k = 0;
-    while k < c {
-        match find_in_chunk(bits, k, n) {
-            Found::At(g) => {
-                return Found::At(g);
-            }
-            Found::Nothing => {
-                k = k + 1;
-            }
-        }
+    let mut best = Gap { at: 0, len: 512 };
+    while k < c && 512 <= best.len {
+        best = best_in_chunk(bits, k, n, best);
+        k += 1;
     }
-    Found::Nothing
+    if best.len < 512 {
+        Found::At(best.at)
+    } else {
+        Found::Nothing
+    }
 }
 
 // The search's definitions mean what RULES 5.3 says of gaps, both where pages are found and where none are. The answer itself says nothing.
