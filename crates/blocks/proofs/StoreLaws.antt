@@ -9,8 +9,8 @@ use lib.Dec.{eqb}
 use lib.ListN.{length, getD, set, length-set}
 use lib.Seq.{sets, length-sets, set-getD, getD-set-same, getD-set-other}
 use borrow.Author.Tests.{eq-eqb, ne-eqb}
-use Rattle.bitrow.specs.Row.{isSet}
-use Rattle.bitrow.proofs.Marks.{length-put-bit, length-put-bits, is-set-same, is-set-other, is-set-in, is-set-out}
+use Rattle.bitrow.specs.Row.{bitAt, isSet}
+use Rattle.bitrow.proofs.Marks.{length-put-bit, length-put-bits, put-bits-in, is-set-same, is-set-other, is-set-in, is-set-out}
 use Rattle.records.specs.declared.Kind.{Kind}
 use Rattle.records.specs.declared.Kind.the-variants.{Free}
 use Rattle.records.specs.Kinds.{kindOf, zeros}
@@ -73,6 +73,10 @@ module _ (c v : ℕ) (p : Pool) (g : ℕ) (ws : List ℕ) where
         ap (λ (t : Bool). kindOf t (isSet (putRun v p g ws .bits) i) (getD (putRun v p g ws .words) i 0)) (ne-eqb (i % 512) 0 off)
         ∙ ap₂ (kindOf false) (is-set-in v (length ws) (p .bits) g v01 (omega arith) i (omega arith) (omega arith))
         (sets-in (p .words) g ws k i e l (omega arith))
+
+    pub run-bits : (i : ℕ) → g ≤ i → i < g + length ws → bitAt (putRun v p g ws .bits) i ≡ v
+    unfolding putRun
+    run-bits i a b = put-bits-in v (length ws) (p .bits) g v01 (omega arith) i a b
 
 -- ---- one slot
 

@@ -2,7 +2,7 @@
 use mathlib.Core.Path.{_≡_, refl, sym, ap, ap₂, _∙_, subst}
 use mathlib.Core.Logic.{_≢_}
 use mathlib.Core.Bool.{Bool, true, false, cond}
-use Prim.Native.Nat.{ℕ, suc, _+_, _≤_, _<_}
+use Prim.Native.Nat.{ℕ, suc, _+_, _/_, _%_, _≤_, _<_}
 use native.Mathlib.Omega.{arith}
 use borrow.Author.Tests.{ne-eqb}
 use Rattle.refusals.specs.Refusals.{noBlock, freeSlot}
@@ -11,15 +11,18 @@ use Rattle.classes.proofs.ClassLaws.{any-row}
 use Rattle.records.specs.declared.Kind.the-variants.{Free}
 use Rattle.records.specs.Pool.{Pool, kindAt}
 use Rattle.records.specs.Calls.{Left, leaves}
+use Rattle.records.specs.Kinds.{zeros, spanOf}
+use Rattle.records.proofs.KindLaws.{length-zeros}
+use Rattle.records.proofs.RunLaws.{sound-runs}
 use Rattle.records.proofs.AdmitLaws.{shaped-lengths}
-use Rattle.gaps.specs.declared.Found.the-variants.{At, Nothing}
-use Rattle.blocks.specs.Blocks.{Block, block, slotBlock, runBlock, IsSlot, IsLarge, IsLive, run, slot, live, there}
-use Rattle.blocks.specs.Stores.{putSlot, Good, Loses}
+use Rattle.gaps.proofs.Answers.{Around, free-around}
+use Rattle.blocks.specs.Blocks.{Block, block, slotBlock, runBlock, IsSlot, IsLarge, IsLive, run, slot, live}
+use Rattle.blocks.specs.Stores.{putRun, putSlot, Good, Loses}
 use Rattle.blocks.proofs.ApartLaws.{live-is}
-use Rattle.blocks.proofs.StoreLaws.{slot-kinds, slot-same}
-use Rattle.blocks.proofs.KeepLaws.{give-slot, free-large}
+use Rattle.blocks.proofs.StoreLaws.{run-bits, slot-kinds, slot-same}
+use Rattle.blocks.proofs.KeepLaws.{run-whole, give-large, give-slot, free-large}
 use Rattle.reserve.specs.declared.Reserved.{Reserved}
-use Rattle.reserve.specs.Reserve.{answer, reserveOf}
+use Rattle.reserve.specs.Reserve.{reserveOf}
 use Rattle.release.specs.declared.Spot.{Spot}
 use Rattle.release.specs.declared.Spot.the-variants.{Nowhere, Run, Slot}
 use Rattle.release.specs.Release.{spot, released, releaseOf, sized, sizeOf}
@@ -32,10 +35,10 @@ use Rattle.next.specs.declared.First.the-variants as first
 use Rattle.next.specs.declared.Next.{Next}
 use Rattle.next.specs.Next.{firstFrom, answered, nextOf}
 use Rattle.next.proofs.MeanLaws.{live-lowest, none-below, below-none, next-by}
-use Rattle.demands.specs.Demand2.{Reserves}
+use Rattle.demands.specs.Demand2.{Takes, Reserves}
 use Rattle.demands.specs.Demand2.{Nexts, next-block, no-block}
 use Rattle.demands.specs.Demand2.{Releases, run-there, slot-taken, slot-free, nothing}
-use Rattle.demands.proofs.ReserveRules.{rule, slot-serves}
+use Rattle.demands.proofs.ReserveRules.{rule, gap-serves, slot-serves}
 
 -- ---- release and block size
 
@@ -126,6 +129,26 @@ module _ (c : ℕ) (p : Pool) (h : Good c p) where
   pub pages-freed : (g k : ℕ) → IsLarge c p g k → (i : ℕ) → g ≤ i → i < g + suc k → kindAt (releaseOf c p (runBlock g k .place) .left) i ≡ Free
   pages-freed g k r i a b =
       ap (λ (y : Left ℕ Pool). kindAt (y .left) i) (by-place _ (run-there g k r refl)) ∙ free-large c p h g k r .were i a b
+
+  -- they are bits of one chunk, so a gap holds them
+  gap-freed : (g k : ℕ) → IsLarge c p g k → Around (putRun 0 p g (zeros (suc k)) .bits) (g / 512) g (suc k)
+  gap-freed g k r =
+      let shape = shaped-lengths c _ _ _ (h .shape) in let long = length-zeros (suc k) in
+      let span : spanOf (kindAt p g) ≡ suc k = ap spanOf (r .kind) in
+      let runs = sound-runs c p (h .whole) in let ends = run-whole c p h g (r .inside) in
+      let first : g % 512 ≢ 0 = runs .off g g (r .inside) (record { low = omega arith; high = omega arith }) in
+      let last : (g + k) / 512 ≡ g / 512 = runs .inside g (g + k) (r .inside) (record { low = omega arith; high = omega arith }) in
+      free-around _ (g / 512) g (suc k) (omega arith) (omega arith) (omega arith)
+      (λ i a b. run-bits c 0 p g (zeros (suc k)) (omega arith) shape (omega arith) i a (omega arith))
+
+  pub room-freed : (g k : ℕ) → IsLarge c p g k → (n m : ℕ) → Takes n m → m ≤ suc k
+      → reserveOf c (releaseOf c p (runBlock g k .place) .left) n .answer .refusal ≡ 0
+  room-freed g k r n m t l =
+      let q : Pool = putRun 0 p g (zeros (suc k)) in
+      let around = gap-freed g k r in let inside = r .inside in
+      let low = around .low in let high = around .high in
+      ap (λ (y : Left ℕ Pool). reserveOf c (y .left) n .answer .refusal) (by-place _ (run-there g k r refl))
+      ∙ gap-serves m t (g / 512) (omega arith) (around .gap) (around .is) (omega arith) (rule c q (give-large c p h g k r .good) n)
 
 -- ---- next
 

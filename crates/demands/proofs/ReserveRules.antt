@@ -10,9 +10,10 @@ use Rattle.classes.specs.Classes.{size, pages, classFor, Smallest}
 use Rattle.classes.proofs.ClassLaws.{row-facts, class-smallest, smallest-once}
 use Rattle.records.specs.Pool.{Pool}
 use Rattle.records.specs.Calls.{Left, leaves}
+use Rattle.gaps.specs.declared.Gap.{Gap}
 use Rattle.gaps.specs.declared.Found.{Found}
 use Rattle.gaps.specs.declared.Found.the-variants.{At, Nothing}
-use Rattle.gaps.specs.Gaps.{findPages}
+use Rattle.gaps.specs.Gaps.{findPages, IsGap}
 use Rattle.gaps.proofs.Answers.{found-place, place-found, nothing-none, none-nothing}
 use Rattle.blocks.specs.Blocks.{slotBlock, IsSlot}
 use Rattle.blocks.specs.Stores.{Good, Gains}
@@ -22,12 +23,12 @@ use Rattle.reserve.specs.Reserve.{pagesFor, planSlot, planLarge, perform, answe
 use Rattle.reserve.specs.declared.Plan.the-variants.{Refuse, NewClass, NewLarge}
 use Rattle.reserve.proofs.PlanLaws as plans
 use Rattle.reserve.proofs.MeanLaws.{firstRun, first-free, first-before, first-none, first-lowest, lowest-planned, attempt-gains, reserve-try, reserve-by}
-use Rattle.demands.specs.Demand2.{NoSlot, Fewest, blockOf}
+use Rattle.demands.specs.Demand2.{NoSlot, Fewest, Takes, class-pages, large-pages, blockOf}
 use Rattle.demands.specs.Demand2.{Reserves, lowest-slot, new-run, no-slot, large-run, no-run, too-big}
 
 -- the fewest pages are those that the request is rounded up to
-fewest-once : (n k : ℕ) → 3072 < n → Fewest n (suc k) → suc k ≡ pagesFor n
-fewest-once n k l f = let a = f .holds in let b = f .fewer k (omega arith) in omega arith
+fewest-once : (n k : ℕ) → 3072 < n → Fewest n k → k ≡ pagesFor n
+fewest-once n k l f = let a = f .holds in let b = f .fewer (k - 1) (omega arith) in omega arith
 
 fewest-made : (n : ℕ) → 3072 < n → (k : ℕ) → suc k ≡ pagesFor n → Fewest n (suc k)
 fewest-made n l k e = record { holds = omega arith; fewer = λ j h. omega arith }
@@ -64,8 +65,8 @@ module _ (c : ℕ) (p : Pool) (h : Good c p) (n : ℕ) where
   by-rule (lowest-slot b g s l f low) = small b l f (sym (lowest-planned c p b h g s (low .is) (low .lowest)))
   by-rule (new-run b g l f none place) = small b l f (new b none g (place-found c (p .bits) (pages b) g place))
   by-rule (no-slot b l f none gap) = small b l f (none-new b none (none-nothing c (p .bits) (pages b) gap))
-  by-rule (large-run k g l m f place) = large l (new-large k m (fewest-once n k l f) g (place-found c (p .bits) (suc k) g place))
-  by-rule (no-run k l m f gap) = large l (none-large k m (fewest-once n k l f) (none-nothing c (p .bits) (suc k) gap))
+  by-rule (large-run k g l m f place) = large l (new-large k m (fewest-once n (suc k) l f) g (place-found c (p .bits) (suc k) g place))
+  by-rule (no-run k l m f gap) = large l (none-large k m (fewest-once n (suc k) l f) (none-nothing c (p .bits) (suc k) gap))
   by-rule (too-big m) = large (omega arith) (plans.large-huge c (p .bits) n m)
 
   -- and there is a rule for each size
@@ -118,6 +119,21 @@ size-holds (no-slot b l f none gap) e = absurd (omega arith)
 size-holds (large-run k g l m f place) e = f .holds
 size-holds (no-run k l m f gap) e = absurd (omega arith)
 size-holds (too-big m) e = absurd (omega arith)
+
+-- where a gap holds the pages that it takes, the request is served
+pub gap-serves : {c : ℕ} {p : Pool} {n : ℕ} {x : Left Reserved Pool} (m : ℕ) → Takes n m → (i : ℕ) → i < c → (z : Gap) → IsGap (p .bits) i z → m ≤ z .len
+    → Reserves c p n x → x .answer .refusal ≡ 0
+gap-serves m t i l z is h (lowest-slot b g s e f low) = refl
+gap-serves m t i l z is h (new-run b g e f none place) = refl
+gap-serves m (class-pages a d e) i l z is h (no-slot b k f none gap) =
+    let same = ap pages (smallest-once _ a b e f) in absurd (omega (arith, gap i l z is))
+gap-serves m (large-pages a d e f) i l z is h (no-slot b k u none gap) = absurd (omega arith)
+gap-serves m t i l z is h (large-run k g e f u place) = refl
+gap-serves m (class-pages a d e) i l z is h (no-run k f u v gap) = absurd (omega arith)
+gap-serves m (large-pages a d e f) i l z is h (no-run k j u v gap) =
+    let same = fewest-once _ a d f in let other = fewest-once _ (suc k) d v in absurd (omega (arith, gap i l z is))
+gap-serves m (class-pages a d e) i l z is h (too-big k) = absurd (omega arith)
+gap-serves m (large-pages a d e f) i l z is h (too-big k) = absurd (omega arith)
 
 -- where a slot of the class is free, the request is served there or lower
 pub slot-serves : {c : ℕ} {p : Pool} {n : ℕ} {x : Left Reserved Pool} (g b s : ℕ) → IsSlot c p g b s false → Smallest n b → Reserves c p n x

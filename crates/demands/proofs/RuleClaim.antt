@@ -20,7 +20,7 @@ use Rattle.demands.specs.Demand2.{Reserves}
 use Rattle.demands.specs.Demand2.{Nexts}
 use Rattle.demands.specs.Demand2.{Releases}
 use Rattle.demands.proofs.ReserveRules.{by-rule, rule, size-holds, block-gained}
-use Rattle.demands.proofs.PlaceRules.{by-place, place-rule, block-lost, unsized, live-served, live-sized, serves-again, pages-freed, by-next, next-rule}
+use Rattle.demands.proofs.PlaceRules.{by-place, place-rule, block-lost, unsized, live-served, live-sized, serves-again, pages-freed, room-freed, by-next, next-rule}
 
 -- a block more in a list is in it
 ins-in : {b : Block} {l l′ : List Block} → Ins b l l′ → List·Memᴰ b l′
@@ -47,6 +47,7 @@ demand-2 c p h =
       loses = block-lost c p h;
       again = serves-again c p h;
       freed = pages-freed c p h;
+      room = room-freed c p h;
       size = λ b m. live-sized c p h (live-is c p m);
       unsized = unsized c p h;
       next = λ q x. (by-next c p h q, λ e. subst (Nexts c p q) e (next-rule c p h q));

@@ -1,7 +1,8 @@
--- Demand 2 (RULES 11): sizes, places and refusals follow the rules. "The smallest class that holds the request, the lowest free slot of
--- that class, otherwise the shortest gap that is long enough in the first chunk that has one. "No room" is answered exactly when neither
--- exists. A freed slot serves its class again; the pages of a freed run count as free for any request."
--- It is said of what the calls answer and leave, on sound records, for every number of chunks, size and place. Assumes nothing.
+-- Demand 2 (RULES 11): "Sizes, places and refusals follow the rules: the smallest class that holds the request, the lowest free slot of that
+-- class, otherwise the shortest gap that is long enough in the first chunk that has one. 'No room' is answered exactly when neither exists. A
+-- freed slot serves its class again; the pages of a freed run count as free for any request."
+-- It is said of what the calls answer and leave on sound records, for every number of chunks, size and place; what they answer on others is
+-- in Demand1. Assumes nothing.
 use mathlib.Core.Path.{_≡_}
 use mathlib.Core.Logic.{_≢_, _↔_}
 use mathlib.Core.Bool.{Bool, true, false}
@@ -45,6 +46,11 @@ NoGap c bits k = (i : ℕ) → i < c → HoldsNone bits i k
 pub record Fewest (n k : ℕ) : Type 0 where
   pub holds : n ≤ 4096 * k
   pub fewer : (j : ℕ) → j < k → 4096 * j < n
+
+-- the pages that n bytes take where they take new ones
+pub data Takes (n : ℕ) : ℕ → Type 0 where
+  class-pages : (b : ℕ) → n ≤ 3072 → Smallest n b → Takes n (pages b)
+  large-pages : (k : ℕ) → 3072 < n → n ≤ 2093056 → Fewest n k → Takes n k
 
 -- what a reserve of n bytes answers and leaves, a line for each rule. `IsPlace c bits k g`: page g is the first of the shortest gap of at
 -- least k pages in the first chunk that has one
@@ -111,8 +117,10 @@ pub record Follows (c : ℕ) (p : Pool) : Type 0 where
   pub again : (g b s : ℕ) → IsSlot c p g b s true → (n : ℕ) → Smallest n b → (x : Left Reserved Pool)
       → x ≡ reserveOf c (releaseOf c p (slotBlock g b s .place) .left) n
       → (x .answer .refusal ≡ 0) × (x .answer .place ≤ slotBlock g b s .place)
-  -- the pages of a freed run are free
+  -- the pages of a freed run are free, and count for any request: one that takes no more pages is served
   pub freed : (g k : ℕ) → IsLarge c p g k → (i : ℕ) → g ≤ i → i < g + suc k → kindAt (releaseOf c p (runBlock g k .place) .left) i ≡ Free
+  pub room : (g k : ℕ) → IsLarge c p g k → (n m : ℕ) → Takes n m → m ≤ suc k
+      → reserveOf c (releaseOf c p (runBlock g k .place) .left) n .answer .refusal ≡ 0
   -- block size gives the size of each live block, and is refused where a release is
   pub size : (b : Block) → List·Memᴰ b (live c p) → sizeOf c p (b .place) ≡ sized 0 (b .size)
   pub unsized : (q r : ℕ) → releaseOf c p q .answer ≡ suc r → sizeOf c p q ≡ sized (suc r) 0

@@ -1,6 +1,8 @@
--- Demand 3 (RULES 10): after any series of calls on one pool the census lists the book, no two of its blocks
--- share a byte, and none touches the first page of a chunk. The series runs the definitions that the calls' own contracts cite.
--- Assumes nothing.
+-- Demand 3 (RULES 10, 11): "Take any series of these calls on one pool, refused ones among them. The book gains each block handed out, loses
+-- each block released, and is emptied by each accepted fresh call. After every such series the census, given room, returns the number of
+-- blocks in the book and lists exactly these, each once, by rising place, with the size it was given. No two of them share a byte, and none
+-- touches the first page of a chunk."
+-- The series runs the definitions that the calls' own contracts cite. Assumes nothing.
 use mathlib.Core.Path.{_≡_}
 use mathlib.Core.Logic.{_≢_}
 use mathlib.Core.Bool.{cond}

@@ -1,9 +1,9 @@
 -- The answer for a pool, in the words of RULES 5.3, and what a caller that takes the pages wants of them.
 -- Assumes nothing.
-use mathlib.Core.Path.{_≡_, refl, ap, subst}
+use mathlib.Core.Path.{_≡_, refl, sym, ap, _∙_, subst}
 use mathlib.Core.Logic.{⊎-elim}
 use mathlib.Core.List.{List}
-use Prim.Native.Nat.{ℕ, zero, suc, _+_, _*_, _/_, _%_, _≤_, _<_}
+use Prim.Native.Nat.{ℕ, zero, suc, _+_, _-_, _*_, _/_, _%_, _≤_, _<_}
 use native.Mathlib.Nat.{zero-add}
 use native.Mathlib.Omega.{arith}
 use Rattle.bitrow.specs.Row.{bitAt}
@@ -11,7 +11,8 @@ use Rattle.bitrow.proofs.Rows.{lt-or-ge}
 use Rattle.gaps.specs.declared.Gap.{Gap}
 use Rattle.gaps.specs.declared.Found.{Found}
 use Rattle.gaps.specs.declared.Found.the-variants.{At, Nothing}
-use Rattle.gaps.specs.Gaps.{gapsOf, findInChunk, orElse, findFrom, findPages, IsBest, HoldsNone, IsPlace, GapsMean}
+use Rattle.gaps.specs.Gaps.{gap, gapsOf, findInChunk, orElse, findFrom, findPages, IsGap, IsBest, HoldsNone, IsPlace, GapsMean}
+use Rattle.gaps.proofs.Scan.{free-or-taken}
 use Rattle.gaps.proofs.Listed.{in-mem, mem-in, listed-gap, gap-listed}
 use Rattle.gaps.proofs.Choice.{InChunk, chunk-means}
 
@@ -96,6 +97,64 @@ gaps-mean = record {
   found = λ c bits n g. (found-place c bits n g, place-found c bits n g);
   nothing = λ c bits n. (nothing-none c bits n, none-nothing c bits n);
 }
+
+-- ---- free pages lie in a gap
+
+-- the m pages from g on lie in the gap x of chunk k
+pub record Around (bits : List ℕ) (k g m : ℕ) : Type 0 where
+  pub gap : Gap
+  pub is : IsGap bits k gap
+  pub low : gap .at ≤ g
+  pub high : g + m ≤ gap .at + gap .len
+
+module _ (bits : List ℕ) (k : ℕ) where
+  -- all pages from a up to, not including, e are free
+  abbrev Free : ℕ → ℕ → Type 0
+  Free a e = (i : ℕ) → a ≤ i → i < e → bitAt bits i ≡ 0
+
+  free-before : (a e : ℕ) → Free (a + 1) e → bitAt bits a ≡ 0 → Free a e
+  free-before a e f z i l h = ⊎-elim (λ j. f i (omega arith) h) (λ j. let same : i ≡ a = omega arith in ap (bitAt bits) same ∙ z) (lt-or-ge a i)
+
+  free-behind : (a e : ℕ) → Free a e → bitAt bits e ≡ 0 → Free a (e + 1)
+  free-behind a e f z i l h = ⊎-elim (λ j. f i l j) (λ j. let same : i ≡ e = omega arith in ap (bitAt bits) same ∙ z) (lt-or-ge i e)
+
+  -- the gap's first page is d pages below a at most
+  first-of : (d a e : ℕ) → 512 * k + 1 + d ≡ a → Free a e
+      → (x : ℕ) × (512 * k + 1 ≤ x) × (x ≤ a) × Free x e × (512 * k + 1 < x → bitAt bits (x - 1) ≡ 1)
+  first-of zero a e r f = (a, omega arith, omega arith, f, λ l. absurd (omega arith))
+  first-of (suc d) a e r f =
+      let same : a - 1 + 1 ≡ a = omega arith in
+      ⊎-elim
+      (λ z. let (x, l, h, free, edge) = first-of d (a - 1) e (omega arith) (free-before (a - 1) e (subst (λ (y : ℕ). Free y e) (sym same) f) z) in
+      (x, l, omega arith, free, edge))
+      (λ z. (a, omega arith, omega arith, f, λ l. z)) (free-or-taken bits (a - 1))
+
+  -- and it ends d pages behind e at most
+  end-of : (d a e : ℕ) → e + d ≡ 512 * k + 512 → Free a e
+      → (x : ℕ) × (e ≤ x) × (x ≤ 512 * k + 512) × Free a x × (x < 512 * k + 512 → bitAt bits x ≡ 1)
+  end-of zero a e r f = (e, omega arith, omega arith, f, λ l. absurd (omega arith))
+  end-of (suc d) a e r f =
+      ⊎-elim (λ z. let (x, l, h, free, edge) = end-of d a (e + 1) (omega arith) (free-behind a e f z) in (x, omega arith, h, free, edge))
+      (λ z. (e, omega arith, omega arith, f, λ l. z)) (free-or-taken bits e)
+
+  pub free-around : (g m : ℕ) → 1 ≤ m → 512 * k + 1 ≤ g → g + m ≤ 512 * k + 512 → Free g (g + m) → Around bits k g m
+  free-around g m some low high f =
+      let (x, xl, xh, xf, xe) = first-of (g - (512 * k + 1)) g (g + m) (omega arith) f in
+      let (y, yl, yh, yf, ye) = end-of (512 * k + 512 - (g + m)) x (g + m) (omega arith) xf in
+      let ends : x + (y - x) ≡ y = omega arith in
+      record {
+        gap = gap x (y - x);
+        is = record {
+          some = omega arith;
+          low = xl;
+          high = omega arith;
+          free = λ i a b. yf i a (omega arith);
+          before = xe;
+          after = λ l. ap (bitAt bits) ends ∙ ye (omega arith);
+        };
+        low = xh;
+        high = omega arith;
+      }
 
 -- n free pages from g on, all in one chunk of the pool and off its page 0
 pub record FreeRun (c : ℕ) (bits : List ℕ) (n g : ℕ) : Type 0 where
