@@ -22,13 +22,14 @@ use Rattle.reserve.specs.Reserve.{refused, attempt, reserveOf}
 use Rattle.reserve.proofs.MeanLaws.{attempt-gains, attempt-kept}
 use Rattle.release.specs.Release.{give, releaseOf}
 use Rattle.release.proofs.MeanLaws.{give-loses, give-kept}
+use Rattle.requestlog.specs.declared.Cursor.{Cursor}
 use Rattle.replay.specs.declared.Event.{Event}
 use Rattle.replay.specs.Run.{reserveEvent, releaseEvent, Run, ended, runAll, runOf, replayOf}
-use Rattle.replay.proofs.RunLaws.{over-all}
 use Rattle.lines.specs.Lines.{linesRoom, printed, telling, printedOf}
-use Rattle.demands.specs.Demand2.{blockOf}
+use Rattle.demands.specs.Demand2.{blockOf, Plays, log-done, log-refused, other-count, start-field, reserve-field, release-field, end-field}
 use Rattle.demands.specs.Demand3.{takeOut, note, notes, State, state, call, series, insert, sort}
 use Rattle.demands.specs.Demand3.{Call, check, fresh, totals, reserve, release, blockSize, next, census, replay, lines, bytes}
+use Rattle.demands.proofs.PlayRules.{plays-all}
 use Rattle.demands.proofs.BookLaws.{ins-insert, ins-out, sort-out}
 
 -- the pool is good, and its live blocks are the book's by rising place
@@ -139,17 +140,16 @@ module _ (c d : ℕ) (x : State) (h : Booked c x) where
 abbrev ran : State → Run → State
 ran x r = state (r .left) (notes (r .events) (x .book))
 
-run-keeps : (c : ℕ) (x : State) → Booked c x → (log : List ℕ) → Booked c (ran x (runAll c (x .pool) log))
+plays-keeps : (c : ℕ) (log : List ℕ) {k : Cursor} {p : Pool} {r : Run} → Plays c log k p r
+    → (book : List Block) → Booked c (state p book) → Booked c (ran (state p book) r)
 unfolding call note notes
-run-keeps c x h log =
-    over-all c (λ (p : Pool) (r : Run). (book : List Block) → Booked c (state p book) → Booked c (ran (state p book) r))
-    (record {
-      stop = λ p r q book g. g;
-      fresh = λ p r later book g. later [] (fresh-noted c p (g .good .shape));
-      reserve = λ p n r later book g. later _ (reserve-keeps c c (state p book) g n);
-      release = λ p q r later book g. later _ (release-keeps c c (state p book) g q);
-      end = λ p r later book g. later book g;
-    }) (x .pool) log (x .book) h
+plays-keeps c log (log-done e) book h = h
+plays-keeps c log (log-refused e) book h = h
+plays-keeps c log (other-count e o) book h = h
+plays-keeps c log (start-field {p = p} e later) book h = plays-keeps c log later [] (fresh-noted c p (h .good .shape))
+plays-keeps c log (reserve-field {p = p} {n = n} e later) book h = plays-keeps c log later _ (reserve-keeps c c (state p book) h n)
+plays-keeps c log (release-field {p = p} {q = q} e later) book h = plays-keeps c log later _ (release-keeps c c (state p book) h q)
+plays-keeps c log (end-field e later) book h = plays-keeps c log later book h
 
 -- the printed lines leave what the replay leaves, unless the buffer is refused
 lines-left : (d : ℕ) (p : Pool) (log out : List ℕ)
@@ -170,7 +170,7 @@ module _ (c d : ℕ) (x : State) (h : Booked c x) (log : List ℕ) where
   unfolding call replayOf runOf notes
   replay-keeps =
       fit-cases c d x h (λ (r : Run). Booked c (ran x r)) (λ m. runAll m (x .pool) log)
-      (run-keeps c x h log) h
+      (plays-keeps c log (plays-all c (x .pool) log) (x .book) h) h
 
   lines-keeps : (out : List ℕ) → Booked c (call (lines d log out) x)
   unfolding call replayOf

@@ -3,23 +3,22 @@ use mathlib.Core.Path.{_≡_, refl, sym, ap, _∙_, subst}
 use mathlib.Core.List.{List, List·Memᴰ, List·Memᴰ·head, List·Memᴰ·tail}
 use Prim.Native.Nat.{ℕ, _+_}
 use lib.ListN.{length}
-use Rattle.classes.specs.Classes.{size, pages}
 use Rattle.records.specs.Pool.{Pool}
+use Rattle.records.specs.Calls.{Left}
+use Rattle.records.proofs.FreshLaws.{fresh-served}
 use Rattle.blocks.specs.Blocks.{Block, live, Ins, here, there}
 use Rattle.blocks.specs.Stores.{Good}
 use Rattle.blocks.proofs.ApartLaws.{live-is}
-use Rattle.reserve.specs.Reserve.{answer}
+use Rattle.blocks.proofs.KeepLaws.{fresh-empty, fresh-good}
 use Rattle.release.specs.Release.{releaseOf}
 use Rattle.census.proofs.MeanLaws.{census-lists, census-short}
 use Rattle.totals.specs.declared.Sums.{Sums}
 use Rattle.totals.specs.Totals.{given, runPages, totalled, summed, totalsOf}
 use Rattle.totals.proofs.PageLaws.{pages-add, totals-by}
 use Rattle.bytes.proofs.PartLaws.{bytes-cut, bytes-none}
-use Rattle.demands.specs.Demand2.{Demand2}
-use Rattle.demands.specs.Demand2.{Reserves}
-use Rattle.demands.specs.Demand2.{Nexts}
-use Rattle.demands.specs.Demand2.{Releases}
+use Rattle.demands.specs.Demand2.{Reserves, Releases, Nexts, Follows, Demand2}
 use Rattle.demands.proofs.ReserveRules.{by-rule, rule, size-holds, block-gained}
+use Rattle.demands.proofs.PlayRules.{log-plays}
 use Rattle.demands.proofs.PlaceRules.{by-place, place-rule, block-lost, unsized, live-served, live-sized, serves-again, pages-freed, room-freed, by-next, next-rule}
 
 -- a block more in a list is in it
@@ -32,9 +31,9 @@ unfolding summed
 totals-sum c p h =
     let e = totals-by c p h in e ∙ ap (λ (x : Sums). totalled 0 (length (live c p)) (given (live c p)) (x .free)) (sym e)
 
-pub demand-2 : Demand2
+follows : (c : ℕ) (p : Pool) → Good c p → Follows c p
 unfolding summed
-demand-2 c p h =
+follows c p h =
     record {
       reserve = λ n x. (by-rule c p h n, λ e. subst (Reserves c p n) e (rule c p h n));
       holds = λ n. size-holds (rule c p h n);
@@ -57,4 +56,16 @@ demand-2 c p h =
       pages = ap (λ (x : Sums). x .free + runPages c p + c) (totals-by c p h) ∙ pages-add c p (h .whole);
       bytes = λ ear left right f b m. bytes-cut ear c p (b .place) left right f (b .size) (live-sized c p h (live-is c p m));
       partless = λ ear left right f q r e. bytes-none ear c p q left right f r (unsized c p h q r e);
+    }
+
+pub demand-2 : Demand2
+demand-2 =
+    record {
+      follows = follows;
+      fresh = λ c p f. (
+        ap (λ (x : Left ℕ Pool). x .answer) (fresh-served c p f),
+        fresh-good c p f,
+        ap (λ (x : Left ℕ Pool). live c (x .left)) (fresh-served c p f) ∙ fresh-empty c,
+      );
+      replay = log-plays;
     }

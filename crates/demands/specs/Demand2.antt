@@ -6,26 +6,32 @@
 use mathlib.Core.Path.{_≡_}
 use mathlib.Core.Logic.{_≢_, _↔_}
 use mathlib.Core.Bool.{Bool, true, false}
-use mathlib.Core.List.{List, _++_, List·Memᴰ}
+use mathlib.Core.List.{List, [], _++_, List·Memᴰ}
 use Prim.Native.Nat.{ℕ, suc, _+_, _*_, _≤_, _<_}
 use lib.ListN.{length, take, drop}
-use Rattle.refusals.specs.Refusals.{tooBig, noRoom, noBlock, freeSlot, shortRoom}
+use Rattle.refusals.specs.Refusals.{tooBig, noRoom, noBlock, freeSlot, shortRoom, badField}
 use Rattle.classes.specs.Classes.{pages, Smallest}
 use Rattle.records.specs.declared.Kind.the-variants.{Free, Large, Class}
 use Rattle.records.specs.Kinds.{zeros, wordsOf}
 use Rattle.records.specs.Pool.{Pool, kindAt}
-use Rattle.records.specs.Calls.{Left, leaves}
+use Rattle.records.specs.Calls.{fit, Left, leaves, freshOf}
 use Rattle.gaps.specs.Gaps.{HoldsNone, IsPlace}
 use Rattle.blocks.specs.Blocks.{Block, block, slotBlock, runBlock, IsSlot, IsLarge, live}
 use Rattle.blocks.specs.Stores.{putRun, putSlot, Good, Gains, Loses}
 use Rattle.reserve.specs.declared.Reserved.{Reserved}
 use Rattle.reserve.specs.Reserve.{refused, slotGiven, runGiven, reserveOf}
 use Rattle.release.specs.Release.{releaseOf, sized, sizeOf}
-use Rattle.next.specs.declared.Next.{Next}
+use Rattle.next.specs.declared.Next as next
 use Rattle.next.specs.Next.{answered, nextOf}
 use Rattle.census.specs.Census.{wordsFor, counted, censusOf}
 use Rattle.totals.specs.Totals.{given, runPages, totalled, totalsOf}
 use Rattle.bytes.specs.Bytes.{chosen, earFits, bytesOf, bytesRefusalOf}
+use Rattle.requestlog.specs.declared.Field.the-variants.{Start, Reserve, Release, End}
+use Rattle.requestlog.specs.declared.Cursor.{Cursor}
+use Rattle.requestlog.specs.declared.Read.the-variants.{Next, Done, Refused}
+use Rattle.requestlog.specs.Log.{outset, readAt}
+use Rattle.replay.specs.declared.Event.the-variants.{Started, Ended}
+use Rattle.replay.specs.Run.{reserveEvent, releaseEvent, Run, ended, withEvent, runOf}
 
 -- ---- reserve (RULES 5.2)
 
@@ -91,12 +97,34 @@ pub data Releases (c : ℕ) (p : Pool) (q : ℕ) : Left ℕ Pool → Type 0 wher
 -- ---- next (RULES 6.3)
 
 -- what it answers for the place q
-pub data Nexts (c : ℕ) (p : Pool) (q : ℕ) : Next → Type 0 where
+pub data Nexts (c : ℕ) (p : Pool) (q : ℕ) : next.Next → Type 0 where
   -- the live block with the lowest place at or above q
   next-block : (b : Block) → List·Memᴰ b (live c p) → q ≤ b .place → ((x : Block) → List·Memᴰ x (live c p) → q ≤ x .place → b .place ≤ x .place)
       → Nexts c p q (answered 0 (b .place) (b .size))
   -- there is none
   no-block : ((x : Block) → List·Memᴰ x (live c p) → x .place < q) → Nexts c p q (answered 0 0 0)
+
+-- ---- replay (RULES 8)
+
+-- what the fields of a log do, from a cursor on: the calls with their answers, the number and position at the end, and the pool that is left.
+-- `readAt log k` is the field at a cursor, with the cursor behind it, or what ends the log (RULES 7.3)
+pub data Plays (c : ℕ) (log : List ℕ) : Cursor → Pool → Run → Type 0 where
+  -- the log is accepted
+  log-done : {k : Cursor} {p : Pool} → readAt log k ≡ Done → Plays c log k p (ended 0 0 p)
+  -- it is refused at a position
+  log-refused : {k : Cursor} {p : Pool} {r q : ℕ} → readAt log k ≡ Refused r q → Plays c log k p (ended r q p)
+  -- a start of another count than the pool's is refused 9
+  other-count : {k j : Cursor} {p : Pool} {n : ℕ} → readAt log k ≡ Next (Start n) j → n ≢ c → Plays c log k p (ended badField (k .at) p)
+  -- a start is a fresh call
+  start-field : {k j : Cursor} {p : Pool} {x : Run} → readAt log k ≡ Next (Start c) j → Plays c log j (freshOf c p .left) x
+      → Plays c log k p (withEvent (Started c) x)
+  -- a reserve and a release are these calls on the pool at that point, refused ones too
+  reserve-field : {k j : Cursor} {p : Pool} {n : ℕ} {x : Run} → readAt log k ≡ Next (Reserve n) j → Plays c log j (reserveOf c p n .left) x
+      → Plays c log k p (withEvent (reserveEvent n (reserveOf c p n .answer)) x)
+  release-field : {k j : Cursor} {p : Pool} {q : ℕ} {x : Run} → readAt log k ≡ Next (Release q) j → Plays c log j (releaseOf c p q .left) x
+      → Plays c log k p (withEvent (releaseEvent q (releaseOf c p q .answer)) x)
+  -- the end changes nothing
+  end-field : {k j : Cursor} {p : Pool} {x : Run} → readAt log k ≡ Next End j → Plays c log j p x → Plays c log k p (withEvent Ended x)
 
 -- ---- the claim
 
@@ -125,7 +153,7 @@ pub record Follows (c : ℕ) (p : Pool) : Type 0 where
   pub size : (b : Block) → List·Memᴰ b (live c p) → sizeOf c p (b .place) ≡ sized 0 (b .size)
   pub unsized : (q r : ℕ) → releaseOf c p q .answer ≡ suc r → sizeOf c p q ≡ sized (suc r) 0
   -- next answers what its rules say
-  pub next : (q : ℕ) (x : Next) → Nexts c p q x ↔ (nextOf c p q ≡ x)
+  pub next : (q : ℕ) (x : next.Next) → Nexts c p q x ↔ (nextOf c p q ≡ x)
   -- a census with room for two words a live block writes place and size of each, by rising place, and answers their count; the words behind
   -- are as they were. With less room: 7
   pub census : (room : List ℕ) → 2 * length (live c p) ≤ length room
@@ -142,5 +170,10 @@ pub record Follows (c : ℕ) (p : Pool) : Type 0 where
   pub partless : (ear : ℕ) (left right : List ℕ) → earFits ear c (chosen ear (length left) (length right)) ≡ true → (q r : ℕ)
       → releaseOf c p q .answer ≡ suc r → bytesRefusalOf ear c p q left right ≡ suc r
 
-abbrev pub Demand2 : Type 0
-Demand2 = (c : ℕ) (p : Pool) → Good c p → Follows c p
+pub record Demand2 : Type 0 where
+  -- on sound records
+  pub follows : (c : ℕ) (p : Pool) → Good c p → Follows c p
+  -- fresh is served wherever the shape is right, whatever the buffers held: what it leaves is sound, and has no live block
+  pub fresh : (c : ℕ) (p : Pool) → fit c p ≡ true → (freshOf c p .answer ≡ 0) × Good c (freshOf c p .left) × (live c (freshOf c p .left) ≡ [])
+  -- and there a replay runs as its rules say: `replayOf` and `printedOf` tell and leave this run
+  pub replay : (c : ℕ) (p : Pool) (log : List ℕ) → fit c p ≡ true → (x : Run) → Plays c log outset p x ↔ (runOf c p log ≡ x)
