@@ -1,15 +1,16 @@
 -- Demand 3: a book that is kept is what a census lists. Assumes nothing.
 use mathlib.Core.Path.{_≡_, refl, sym, ap, _∙_, subst}
-use mathlib.Core.Bool.{Bool, true, false, cond}
+use mathlib.Core.Bool.{true}
 use mathlib.Core.List.{List, [], _++_, List·Memᴰ}
-use Prim.Native.Nat.{ℕ, _*_, _≤_}
+use Prim.Native.Nat.{ℕ, zero, suc, _*_, _≤_}
 use native.Mathlib.Omega.{arith}
 use lib.ListN.{length, drop}
+use Rattle.refusals.specs.Refusals.{unless}
 use Rattle.records.specs.Kinds.{zeros}
 use Rattle.records.specs.Pool.{Pool, pool}
-use Rattle.records.specs.Calls.{fit, Left, leaves, freshPool, freshOf}
+use Rattle.records.specs.Calls.{fit, shapeOf, Left, leaves, freshPool, freshOf}
 use Rattle.records.proofs.KindLaws.{length-zeros}
-use Rattle.records.proofs.AdmitLaws.{lengths-shaped}
+use Rattle.records.proofs.AdmitLaws.{lengths-shaped, shape-fits}
 use Rattle.records.proofs.FreshLaws.{fresh-served}
 use Rattle.blocks.specs.Blocks.{Block, live, Rising}
 use Rattle.blocks.proofs.ApartLaws.{live-rising, live-off}
@@ -52,11 +53,11 @@ module _ (c : ℕ) (x : State) (h : Booked c x) where
 -- a fresh call that is not refused fits
 fresh-fits : (c : ℕ) (p : Pool) → freshOf c p .answer ≡ 0 → fit c p ≡ true
 unfolding freshOf
-fresh-fits c p e = go (fit c p) refl e
+fresh-fits c p e = go (shapeOf c p) refl e
   where
-    go : (v : Bool) → fit c p ≡ v → _≡_ {A = ℕ} (cond v (leaves 0 (freshPool c)) (leaves 1 p) .answer) 0 → fit c p ≡ true
-    go true k z = k
-    go false k z = absurd (omega arith)
+    go : (n : ℕ) → shapeOf c p ≡ n → unless n (λ r. leaves r p) (leaves 0 (freshPool c)) .answer ≡ 0 → fit c p ≡ true
+    go zero k z = shape-fits c p k
+    go (suc n) k z = absurd (omega arith)
 
 -- buffers of the right lengths, of zeros
 zeros-open : (c : ℕ) → 1 ≤ c → c ≤ 16 → freshOf c (pool (zeros (8 * c)) (zeros (512 * c)) (zeros (4096 * c))) .answer ≡ 0

@@ -7,11 +7,11 @@ use Prim.Native.Nat.{ℕ, zero, suc, _-_}
 use native.Mathlib.Omega.{arith}
 use lib.Dec.{eqb, ltb}
 use lib.ListN.{length}
-use Rattle.refusals.specs.Refusals.{unless, shape, shortRoom}
+use Rattle.refusals.specs.Refusals.{unless, shortRoom}
 use Rattle.records.specs.Pool.{Pool}
-use Rattle.records.specs.Calls.{fit, admitOf, Left, leaves, freshPool, freshOf}
-use Rattle.records.proofs.Flags.{eq-cases}
-use Rattle.records.proofs.AdmitLaws.{shaped-lengths}
+use Rattle.records.specs.Calls.{fit, shapeOf, admitOf, Left, leaves, freshPool, freshOf}
+use Rattle.records.proofs.Flags.{cond-ne, eq-cases}
+use Rattle.records.proofs.AdmitLaws.{shaped-lengths, shape-fits}
 use Rattle.records.proofs.FreshLaws.{fresh-served}
 use Rattle.blocks.specs.Blocks.{Block, live}
 use Rattle.blocks.specs.Stores.{Good, Gains, Loses}
@@ -91,29 +91,29 @@ fit-one c d p e f =
     omega arith
 
 module _ (c d : ℕ) (x : State) (h : Booked c x) where
-  -- what is done behind refusal 1 is a call of c chunks
-  fit-cases : {A : Type 0} (P : A → Type 0) (f : ℕ → A) {y : A} → P (f c) → P y → P (cond (fit d (x .pool)) (f d) y)
-  fit-cases P f {y} g r = go (fit d (x .pool)) refl
-    where
-      go : (v : Bool) → fit d (x .pool) ≡ v → P (cond v (f d) y)
-      go true e = subst (λ (m : ℕ). P (f m)) (sym (fit-one c d (x .pool) (h .good .shape) e)) g
-      go false e = r
+  -- what is done behind checks that the shape passes is a call of c chunks; `first` is their refusal
+  checked-cases : {A : Type 0} (P : A → Type 0) (f refuse : ℕ → A) (first : ℕ) → (first ≡ 0 → fit d (x .pool) ≡ true) → P (f c)
+      → ((r : ℕ) → P (refuse (suc r))) → P (unless first refuse (f d))
+  checked-cases P f refuse zero e g r = subst (λ (m : ℕ). P (f m)) (sym (fit-one c d (x .pool) (h .good .shape) (e refl))) g
+  checked-cases P f refuse (suc n) e g r = r n
 
-  -- and so behind refusals 1 and 2
+  -- by the shape alone, and by the records
+  shape-cases : {A : Type 0} (P : A → Type 0) (f refuse : ℕ → A) → P (f c) → ((r : ℕ) → P (refuse (suc r)))
+      → P (unless (shapeOf d (x .pool)) refuse (f d))
+  shape-cases P f refuse = checked-cases P f refuse (shapeOf d (x .pool)) (shape-fits d (x .pool))
+
   admit-cases : {A : Type 0} (P : A → Type 0) (f refuse : ℕ → A) → P (f c) → ((r : ℕ) → P (refuse (suc r)))
       → P (unless (admitOf d (x .pool)) refuse (f d))
-  admit-cases P f refuse g r = go (admitOf d (x .pool)) refl
-    where
-      go : (n : ℕ) → admitOf d (x .pool) ≡ n → P (unless n refuse (f d))
-      go zero e = subst (λ (m : ℕ). P (f m)) (sym (fit-one c d (x .pool) (h .good .shape) (admit-good d (x .pool) e .shape))) g
-      go (suc n) e = r n
+  admit-cases P f refuse = checked-cases P f refuse (admitOf d (x .pool)) (λ e. admit-good d (x .pool) e .shape)
 
   fresh-keeps : Booked c (call (fresh d) x)
   unfolding call note freshOf
   fresh-keeps =
       let e = h .good .shape in
-      fit-cases (λ (y : Left ℕ Pool). Booked c (state (y .left) (cond (eqb (y .answer) 0) [] (x .book)))) (λ m. leaves 0 (freshPool m))
-      (subst (λ (y : Left ℕ Pool). Booked c (state (y .left) [])) (fresh-served c (x .pool) e) (fresh-noted c (x .pool) e)) h
+      shape-cases (λ (y : Left ℕ Pool). Booked c (state (y .left) (cond (eqb (y .answer) 0) [] (x .book)))) (λ m. leaves 0 (freshPool m))
+      (λ r. leaves r (x .pool))
+      (subst (λ (y : Left ℕ Pool). Booked c (state (y .left) [])) (fresh-served c (x .pool) e) (fresh-noted c (x .pool) e))
+      (λ r. subst (λ (l : List Block). Booked c (state (x .pool) l)) (sym (cond-ne (suc r) 0 [] (x .book) (omega arith))) h)
 
   reserve-keeps : (n : ℕ) → Booked c (call (reserve d n) x)
   unfolding call reserveOf
@@ -155,22 +155,23 @@ plays-keeps c log (end-field e later) book h = plays-keeps c log later book h
 lines-left : (d : ℕ) (p : Pool) (log out : List ℕ)
     → printedOf d p log out .left .0 ≡ cond (ltb (length out) (linesRoom (length log))) p (runOf d p log .left)
 unfolding printedOf telling runOf
-lines-left d p log out = go (fit d p) (ltb (length out) (linesRoom (length log))) (runAll d p log)
+lines-left d p log out = go (shapeOf d p) (ltb (length out) (linesRoom (length log))) (runAll d p log)
   where
-    go : (v t : Bool) (r : Run)
-        → cond v (cond t (leaves (printed shortRoom 0 0) (p, out)) (telling d (cond v r (ended shape 0 p)) out)) (leaves (printed shape 0 0) (p, out)) .left .0
-        ≡ cond t p (cond v r (ended shape 0 p) .left)
-    go true true r = refl
-    go true false r = refl
-    go false true r = refl
-    go false false r = refl
+    go : (n : ℕ) (t : Bool) (r : Run)
+        → unless n (λ k. leaves (printed k 0 0) (p, out))
+        (cond t (leaves (printed shortRoom 0 0) (p, out)) (telling d (unless n (λ k. ended k 0 p) r) out)) .left .0
+        ≡ cond t p (unless n (λ k. ended k 0 p) r .left)
+    go zero true r = refl
+    go zero false r = refl
+    go (suc n) true r = refl
+    go (suc n) false r = refl
 
 module _ (c d : ℕ) (x : State) (h : Booked c x) (log : List ℕ) where
   replay-keeps : Booked c (call (replay d log) x)
   unfolding call replayOf runOf notes
   replay-keeps =
-      fit-cases c d x h (λ (r : Run). Booked c (ran x r)) (λ m. runAll m (x .pool) log)
-      (plays-keeps c log (plays-all c (x .pool) log) (x .book) h) h
+      shape-cases c d x h (λ (r : Run). Booked c (ran x r)) (λ m. runAll m (x .pool) log) (λ r. ended r 0 (x .pool))
+      (plays-keeps c log (plays-all c (x .pool) log) (x .book) h) (λ r. h)
 
   lines-keeps : (out : List ℕ) → Booked c (call (lines d log out) x)
   unfolding call replayOf

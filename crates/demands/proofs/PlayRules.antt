@@ -1,18 +1,19 @@
 -- Demand 2: a replay, field by field. Assumes nothing.
 use mathlib.Core.Path.{_≡_, refl, sym, ap, _∙_, subst}
 use mathlib.Core.Logic.{_≢_, _↔_, by-cases}
-use mathlib.Core.Bool.{Bool, true, false, cond, false≢true}
-use mathlib.Core.List.{List}
+use mathlib.Core.Bool.{true, false, false≢true}
+use mathlib.Core.List.{List, [], _∷_, _++_, append-assoc, List·Memᴰ, List·Memᴰ·head, List·Memᴰ·tail}
 use Prim.Native.Nat.{ℕ, zero, suc, _+_, _≤_, _<_}
 use native.Mathlib.Decide.{decLt}
 use native.Mathlib.Omega.{arith}
 use lib.Dec.{leb}
-use lib.ListN.{length}
+use lib.ListN.{length, length-append}
 use borrow.Author.Tests.{le-leb, lt-leb}
 use Rattle.refusals.specs.Refusals.{badField}
 use Rattle.records.specs.Pool.{Pool}
-use Rattle.records.specs.Calls.{fit, Left, leaves, freshOf}
+use Rattle.records.specs.Calls.{fit, Left, freshOf}
 use Rattle.records.proofs.Flags.{cond-lt, cond-nlt}
+use Rattle.records.proofs.AdmitLaws.{shaped-lengths}
 use Rattle.reserve.specs.Reserve.{reserveOf}
 use Rattle.release.specs.Release.{releaseOf}
 use Rattle.requestlog.specs.declared.Field.{Field}
@@ -20,13 +21,15 @@ use Rattle.requestlog.specs.declared.Field.the-variants.{Start, Reserve, Releas
 use Rattle.requestlog.specs.declared.Cursor.{Cursor}
 use Rattle.requestlog.specs.declared.Read.{Read}
 use Rattle.requestlog.specs.declared.Read.the-variants.{Next, Done, Refused}
-use Rattle.requestlog.specs.Log.{outset, readAt}
-use Rattle.requestlog.proofs.LogLaws.{within-one, cond-cases, Fine, read-fine}
+use Rattle.requestlog.specs.Log.{due, written, cursor, outset, readAt}
+use Rattle.requestlog.proofs.LogLaws.{within-one, cond-cases, read-done, Fine, read-fine}
+use Rattle.requestlog.proofs.WriteLaws.{read-written}
 use Rattle.replay.specs.declared.Event.the-variants.{Started, Ended}
 use Rattle.replay.specs.declared.Step.{Step}
-use Rattle.replay.specs.declared.Step.the-variants.{Going, Stopped}
 use Rattle.replay.specs.Run.{reserveEvent, releaseEvent, doField, suits, readStep, stepOf, Run, ended, withEvent, onward, runFrom, runAll, runOf}
+use Rattle.replay.proofs.RunLaws.{run-fit}
 use Rattle.replay.proofs.PrefixLaws.{run-next}
+use Rattle.demands.specs.Demand2.{Loggable, logged, inTurn}
 use Rattle.demands.specs.Demand2.{Plays, log-done, log-refused, other-count, start-field, reserve-field, release-field, end-field}
 
 -- a start suits where its count is the pool's
@@ -44,26 +47,26 @@ module _ (c : ℕ) (log : List ℕ) where
 
   -- ---- what the rules say is the run, with fuel for all bytes
 
-  -- a stop
-  stops : (n : ℕ) (k : Cursor) (p : Pool) (x : Read) (r : Run) → readAt log k ≡ x
-      → onward (λ j q. runFrom n c q log j) (readStep c p (k .at) x .answer) (readStep c p (k .at) x .left) ≡ r → runFrom (suc n) c p log k ≡ r
-  unfolding runFrom stepOf
-  stops n k p x r e h = rw e h
+  module _ (n : ℕ) (k : Cursor) (p : Pool) where
+    run-done : readAt log k ≡ Done → runFrom (suc n) c p log k ≡ ended 0 0 p
+    unfolding runFrom stepOf readStep
+    run-done e = rw e
+
+    run-refused : {r q : ℕ} → readAt log k ≡ Refused r q → runFrom (suc n) c p log k ≡ ended r q p
+    unfolding runFrom stepOf readStep
+    run-refused e = rw e
+
+    run-unsuited : {f : Field} {j : Cursor} → readAt log k ≡ Next f j → suits c f ≡ false → runFrom (suc n) c p log k ≡ ended badField (k .at) p
+    unfolding runFrom stepOf readStep
+    run-unsuited e s = rw (e, s)
 
   by-fields : {k : Cursor} {p : Pool} {x : Run} → Plays c log k p x → (n : ℕ) → k .at ≤ length log → length log < k .at + n
       → runFrom n c p log k ≡ x
-  unfolding readStep doField
+  unfolding doField
   by-fields r zero l h = absurd (omega arith)
-  by-fields (log-done {k} {p} e) (suc n) l h = stops n k p Done _ e refl
-  by-fields (log-refused {k} {p} {r} {q} e) (suc n) l h = stops n k p (Refused r q) _ e refl
-  by-fields (other-count {k} {j} {p} {n = m} e o) (suc n) l h =
-      stops n k p (Next (Start m) j) _ e
-      (ap (λ (v : Bool). step v) (suits-other c m o))
-    where
-      step : Bool → Run
-      step v =
-          let s = cond v (leaves (Going (Started m) j) (freshOf c p .left)) (leaves (Stopped badField (k .at)) p) in
-          onward (λ i q. runFrom n c q log i) (s .answer) (s .left)
+  by-fields (log-done {k} {p} e) (suc n) l h = run-done n k p e
+  by-fields (log-refused {k} {p} e) (suc n) l h = run-refused n k p e
+  by-fields (other-count {k} {p = p} {n = m} e o) (suc n) l h = run-unsuited n k p e (suits-other c m o)
   by-fields (start-field {k} {j} {p} e later) (suc n) l h =
       let (more, inside) = next-inside k j (Start c) e in
       run-next n c p log k e (suits-own c) ∙ ap (withEvent (Started c)) (by-fields later n inside (omega arith))
@@ -120,8 +123,41 @@ module _ (c : ℕ) (p : Pool) (log : List ℕ) where
   plays-all = plays-from c log (suc (length log)) outset p (omega arith) (omega arith)
 
   pub log-plays : fit c p ≡ true → (x : Run) → Plays c log outset p x ↔ (runOf c p log ≡ x)
-  unfolding runOf runAll
+  unfolding runAll
   log-plays f x = (
-    λ r. rw f (by-fields c log r (suc (length log)) (omega arith) (omega arith)),
-    λ e. subst (Plays c log outset p) (rw f at e) plays-all,
+    λ r. sym (run-fit c p log f) ∙ by-fields c log r (suc (length log)) (omega arith) (omega arith),
+    λ e. subst (Plays c log outset p) (run-fit c p log f ∙ e) plays-all,
   )
+
+-- ---- a log that was written
+
+module _ (c : ℕ) where
+  -- a call of it, behind the bytes a
+  call-plays : (a b : List ℕ) (p : Pool) (f : Field) (x : Run) → Loggable f
+      → Plays c (a ++ (written f ++ b)) (cursor (length a + length (written f)) 1) (doField c p f .left) x
+      → Plays c (a ++ (written f ++ b)) (cursor (length a) 1) p (withEvent (doField c p f .answer) x)
+  unfolding due
+  call-plays a b p (Start n) x w r = absurd w
+  call-plays a b p (Reserve n) x w r = field-plays c _ _ _ p (Reserve n) x (read-written a b (Reserve n) 1 w refl) refl r
+  call-plays a b p (Release q) x w r = field-plays c _ _ _ p (Release q) x (read-written a b (Release q) 1 w refl) refl r
+  call-plays a b p End x w r = absurd w
+
+  calls-play : (a : List ℕ) (p : Pool) (calls : List Field) → ((f : Field) → List·Memᴰ f calls → Loggable f)
+      → Plays c (a ++ logged calls) (cursor (length a) 1) p (inTurn c p calls)
+  unfolding due
+  calls-play a p [] w =
+      let n = length-append a (written End) in
+      end-field (read-written a [] End 1 tt refl)
+      (log-done (sym (read-done (a ++ written End) (cursor (length a + 3) 2) refl (omega arith) (omega arith))))
+  calls-play a p (f ∷ l) w =
+      call-plays a (logged l) p f _ (w f (List·Memᴰ·head refl))
+      (rw (← length-append a (written f), ← append-assoc a (written f) (logged l))
+      (calls-play (a ++ written f) (doField c p f .left) l (λ g m. w g (List·Memᴰ·tail m))))
+
+  pub written-plays : (p : Pool) (calls : List Field) → fit c p ≡ true → ((f : Field) → List·Memᴰ f calls → Loggable f)
+      → runOf c p (written (Start c) ++ logged calls) ≡ withEvent (Started c) (inTurn c (freshOf c p .left) calls)
+  unfolding due
+  written-plays p calls e w =
+      let s = shaped-lengths c _ _ _ e in
+      log-plays c p (written (Start c) ++ logged calls) e _ .0
+      (start-field (read-written [] (logged calls) (Start c) 0 (s .some-chunk, s .few) refl) (calls-play (written (Start c)) (freshOf c p .left) calls w))

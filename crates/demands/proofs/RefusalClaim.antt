@@ -7,18 +7,21 @@ use Prim.Native.Nat.{ℕ, zero, suc}
 use native.Mathlib.Omega.{arith}
 use lib.Dec.{leb, ltb}
 use lib.ListN.{length, take, drop}
+use lib.Seq.{sets}
 use borrow.Author.Tests.{leb-true, leb-false, le-ltb, lt-ltb}
 use Rattle.refusals.specs.Refusals.{unless, shape, shortRoom}
+use Rattle.refusals.proofs.CallLaws as calls
 use Rattle.records.specs.Pool.{Pool}
 use Rattle.records.specs.Sound.{sound}
-use Rattle.records.specs.Calls.{fit, admitOf, Left, leaves, freshPool, freshOf}
+use Rattle.records.specs.Calls.{fit, shapeOf, admitOf, Left, leaves, freshPool, freshOf}
+use Rattle.records.proofs.AdmitLaws.{shape-fits}
 use Rattle.blocks.proofs.KeepLaws.{admit-good, good-admit}
 use Rattle.reserve.specs.declared.Reserved.{Reserved}
 use Rattle.reserve.specs.Reserve.{refused, attempt, reserveOf}
 use Rattle.reserve.proofs.MeanLaws.{attempt-kept}
 use Rattle.release.specs.declared.Sized.{Sized}
 use Rattle.release.specs.declared.Spot.{Spot}
-use Rattle.release.specs.declared.Spot.the-variants.{Nowhere, Run, Slot}
+use Rattle.release.specs.declared.Spot.the-variants as spots
 use Rattle.release.specs.Release.{spot, give, releaseOf, sized, sizeAt, sizeOf}
 use Rattle.release.proofs.MeanLaws.{give-kept}
 use Rattle.next.specs.declared.First.{First}
@@ -34,11 +37,11 @@ use Rattle.totals.specs.Totals.{totalled, summed, totalsOf}
 use Rattle.bytes.specs.declared.Part.{Part}
 use Rattle.bytes.specs.Bytes.{chosen, bytesOf, bytesRefusalOf}
 use Rattle.bytes.proofs.PartLaws.{part-checked, part-kept}
-use Rattle.replay.specs.Run.{ended, runAll, runOf, replayed, replayOf}
+use Rattle.replay.specs.Run.{Run, ended, runAll, runOf, replayed, replayOf}
 use Rattle.replay.proofs.MeanLaws.{numbers, unstarted, started, accepted, stopped}
 use Rattle.replay.proofs.PrefixLaws.{replay-prefix}
-use Rattle.lines.specs.Lines.{linesRoom, printed, telling, printedOf}
-use Rattle.demands.specs.Demand1.{Refuses, shapeOf, earOf, roomOf, Replays, Demand1}
+use Rattle.lines.specs.Lines.{transcript, linesRoom, printed, telling, printedOf}
+use Rattle.demands.specs.Demand1.{Refuses, earOf, roomOf, Replays, Demand1}
 
 -- ---- the check
 
@@ -71,9 +74,9 @@ refuses-by (suc n) number nothing work back kept =
     record { checked = λ r e. ap nothing e; unchanged = λ r e. ap nothing (sym (back (suc n)) ∙ e) }
 
 size-kept : (x : Spot) (r : ℕ) → sizeAt x .refusal ≡ suc r → sizeAt x ≡ sized (suc r) 0
-size-kept (Nowhere n) r e = ap (λ (k : ℕ). sized k 0) e
-size-kept (Run g k) r e = absurd (omega arith)
-size-kept (Slot g b s) r e = absurd (omega arith)
+size-kept (spots.Nowhere n) r e = ap (λ (k : ℕ). sized k 0) e
+size-kept (spots.Run g k) r e = absurd (omega arith)
+size-kept (spots.Slot g b s) r e = absurd (omega arith)
 
 next-kept : (x : First) (r : ℕ) → answerOf x .refusal ≡ suc r → answerOf x ≡ answered (suc r) 0 0
 next-kept (At y z) r e = absurd (omega arith)
@@ -82,11 +85,8 @@ next-kept Nothing r e = absurd (omega arith)
 module _ (c : ℕ) (p : Pool) where
   fresh-refuses : Refuses (shapeOf c p) (λ x. x .answer) (λ r. leaves r p) (freshOf c p)
   unfolding freshOf
-  fresh-refuses = go (fit c p)
-    where
-      go : (v : Bool) → Refuses (cond v 0 shape) (λ x. x .answer) (λ r. leaves r p) (cond v (leaves 0 (freshPool c)) (leaves shape p))
-      go true = record { checked = λ r e. absurd (omega arith); unchanged = λ r e. absurd (omega arith) }
-      go false = record { checked = λ r e. ap (λ (k : ℕ). leaves k p) e; unchanged = λ r e. ap (λ (k : ℕ). leaves k p) e }
+  fresh-refuses =
+      refuses-by (shapeOf c p) (λ (x : Left ℕ Pool). x .answer) (λ r. leaves r p) (leaves 0 (freshPool c)) (λ r. refl) (λ r e. absurd (omega arith))
 
   reserve-refuses : (n : ℕ) → Refuses (admitOf c p) (λ x. x .answer .refusal) (λ r. leaves (refused r) p) (reserveOf c p n)
   unfolding reserveOf
@@ -139,61 +139,54 @@ module _ (ear c : ℕ) (p : Pool) (q : ℕ) (left right : List ℕ) where
 module _ (c : ℕ) (p : Pool) (log : List ℕ) where
   replay-checked : (r : ℕ) → shapeOf c p ≡ suc r → replayOf c p log ≡ leaves (replayed (suc r) 0) p
   unfolding replayOf runOf
-  replay-checked r e = go (fit c p) e
-    where
-      go : (v : Bool) → _≡_ {A = ℕ} (cond v 0 shape) (suc r)
-          → leaves (replayed (cond v (runAll c p log) (ended shape 0 p) .refusal) (cond v (runAll c p log) (ended shape 0 p) .position))
-          (cond v (runAll c p log) (ended shape 0 p) .left) ≡ leaves (replayed (suc r) 0) p
-      go true f = absurd (omega arith)
-      go false f = ap (λ (k : ℕ). leaves (replayed k 0) p) f
-
-  shape-fit : shapeOf c p ≡ 0 → fit c p ≡ true
-  shape-fit e = go (fit c p) e
-    where
-      go : (v : Bool) → _≡_ {A = ℕ} (cond v 0 shape) 0 → v ≡ true
-      go true f = refl
-      go false f = absurd (omega arith)
+  replay-checked r e =
+      ap (λ (x : Run). leaves (replayed (x .refusal) (x .position)) (x .left))
+      (sym (calls.refused (shapeOf c p) (suc r) (λ k. ended k 0 p) (runAll c p log) (sym e) (omega arith)))
 
   replay-stands : Replays c p log
   unfolding replayOf
   replay-stands =
       record {
         checked = replay-checked;
-        number = λ e. numbers c p log (shape-fit e);
+        number = λ e. numbers c p log (shape-fits c p e);
         stand = λ r e. let (events, pool) = replay-prefix c p log r e in (sym pool, sym events);
         position = stopped c p log;
         accepted = accepted c p log;
         unstarted = unstarted c p log;
-        started = λ e l h. admit-good c (runOf c p log .left) (started c p log e l h);
+        started = started c p log;
       }
 
   -- ---- its lines
 
   module _ (out : List ℕ) where
     lines-checked : (r : ℕ) → roomOf c p log out ≡ suc r → printedOf c p log out ≡ leaves (printed (suc r) 0 0) (p, out)
-    unfolding printedOf
+    unfolding printedOf shapeOf
     lines-checked r e = go (fit c p) (leb (linesRoom (length log)) (length out)) refl e
       where
         go : (v u : Bool) → leb (linesRoom (length log)) (length out) ≡ u → _≡_ {A = ℕ} (cond v (cond u 0 shortRoom) shape) (suc r)
-            → cond v (cond (ltb (length out) (linesRoom (length log))) (leaves (printed shortRoom 0 0) (p, out)) (telling c (runOf c p log) out))
-            (leaves (printed shape 0 0) (p, out)) ≡ leaves (printed (suc r) 0 0) (p, out)
+            → unless (cond v 0 shape) (λ k. leaves (printed k 0 0) (p, out))
+            (cond (ltb (length out) (linesRoom (length log))) (leaves (printed shortRoom 0 0) (p, out)) (telling c (runOf c p log) out))
+            ≡ leaves (printed (suc r) 0 0) (p, out)
         go true true f x = absurd (omega arith)
         go true false f x = rw (lt-ltb _ _ (leb-false _ _ f)) (ap (λ (k : ℕ). leaves (printed k 0 0) (p, out)) x)
         go false u f x = ap (λ (k : ℕ). leaves (printed k 0 0) (p, out)) x
 
-    lines-replay : roomOf c p log out ≡ 0
-        → (replayed (printedOf c p log out .answer .refusal) (printedOf c p log out .answer .position) ≡ replayOf c p log .answer)
-        × (printedOf c p log out .left .0 ≡ replayOf c p log .left)
-    unfolding printedOf replayOf telling
-    lines-replay e = go (fit c p) (leb (linesRoom (length log)) (length out)) refl e
+    lines-replay : roomOf c p log out ≡ 0 → (text : List ℕ) → text ≡ transcript c (runOf c p log)
+        → printedOf c p log out
+        ≡ leaves (printed (replayOf c p log .answer .refusal) (replayOf c p log .answer .position) (length text)) (replayOf c p log .left, sets out 0 text)
+    unfolding printedOf shapeOf replayOf telling
+    lines-replay e text t = go (fit c p) (leb (linesRoom (length log)) (length out)) refl e
       where
+        x : Run
+        x = runOf c p log
+
         go : (v u : Bool) → leb (linesRoom (length log)) (length out) ≡ u → _≡_ {A = ℕ} (cond v (cond u 0 shortRoom) shape) 0
-            → (let x = cond v (cond (ltb (length out) (linesRoom (length log))) (leaves (printed shortRoom 0 0) (p, out)) (telling c (runOf c p log) out))
-            (leaves (printed shape 0 0) (p, out)) in
-            (replayed (x .answer .refusal) (x .answer .position) ≡ replayOf c p log .answer) × (x .left .0 ≡ replayOf c p log .left))
-        go true true f x = rw (le-ltb _ _ (leb-true _ _ f)) (refl, refl)
-        go true false f x = absurd (omega arith)
-        go false u f x = absurd (omega arith)
+            → unless (cond v 0 shape) (λ k. leaves (printed k 0 0) (p, out))
+            (cond (ltb (length out) (linesRoom (length log))) (leaves (printed shortRoom 0 0) (p, out)) (telling c x out))
+            ≡ leaves (printed (x .refusal) (x .position) (length text)) (x .left, sets out 0 text)
+        go true true f z = rw (le-ltb _ _ (leb-true _ _ f), t)
+        go true false f z = absurd (omega arith)
+        go false u f z = absurd (omega arith)
 
 pub demand-1 : Demand1
 demand-1 =

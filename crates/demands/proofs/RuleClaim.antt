@@ -18,7 +18,7 @@ use Rattle.totals.proofs.PageLaws.{pages-add, totals-by}
 use Rattle.bytes.proofs.PartLaws.{bytes-cut, bytes-none}
 use Rattle.demands.specs.Demand2.{Reserves, Releases, Nexts, Follows, Demand2}
 use Rattle.demands.proofs.ReserveRules.{by-rule, rule, size-holds, block-gained}
-use Rattle.demands.proofs.PlayRules.{log-plays}
+use Rattle.demands.proofs.PlayRules.{log-plays, written-plays}
 use Rattle.demands.proofs.PlaceRules.{by-place, place-rule, block-lost, unsized, live-served, live-sized, serves-again, pages-freed, room-freed, by-next, next-rule}
 
 -- a block more in a list is in it
@@ -68,4 +68,5 @@ demand-2 =
         ap (λ (x : Left ℕ Pool). live c (x .left)) (fresh-served c p f) ∙ fresh-empty c,
       );
       replay = log-plays;
+      log = written-plays;
     }

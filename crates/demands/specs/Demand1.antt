@@ -10,10 +10,11 @@ use mathlib.Core.List.{List, [], _∷_}
 use Prim.Native.Nat.{ℕ, suc}
 use lib.Dec.{leb}
 use lib.ListN.{length, take}
+use lib.Seq.{sets}
 use Rattle.refusals.specs.Refusals.{shape, damaged, shortRoom, cutLog, badField, firstOf}
 use Rattle.records.specs.Pool.{Pool}
 use Rattle.records.specs.Sound.{sound}
-use Rattle.records.specs.Calls.{fit, checks, admitOf, leaves, freshOf}
+use Rattle.records.specs.Calls.{fit, shapeOf, checks, admitOf, leaves, freshOf}
 use Rattle.blocks.specs.Stores.{Good}
 use Rattle.reserve.specs.Reserve.{refused, reserveOf}
 use Rattle.release.specs.Release.{releaseOf, sized, sizeOf}
@@ -23,7 +24,7 @@ use Rattle.totals.specs.Totals.{totalled, totalsOf}
 use Rattle.bytes.specs.Bytes.{chosen, earFits, bytesOf, bytesRefusalOf}
 use Rattle.replay.specs.declared.Event.{Event}
 use Rattle.replay.specs.Run.{runOf, replayed, replayOf, bytesIn}
-use Rattle.lines.specs.Lines.{linesRoom, printed, printedOf}
+use Rattle.lines.specs.Lines.{transcript, linesRoom, printed, printedOf}
 
 -- ---- a call that refuses
 
@@ -34,10 +35,6 @@ pub record Refuses {A : Type 0} (first : ℕ) (number : A → ℕ) (nothing : �
   pub checked : (r : ℕ) → first ≡ suc r → x ≡ nothing (suc r)
   -- and whatever the number, nothing is given and nothing changed
   pub unchanged : (r : ℕ) → number x ≡ suc r → x ≡ nothing (suc r)
-
--- the shape of what is lent, and no more
-abbrev pub shapeOf : ℕ → Pool → ℕ
-shapeOf c p = firstOf ((fit c p, shape) ∷ [])
 
 -- the ear with its arena, then the shape and the records
 abbrev pub earOf : ℕ → ℕ → Pool → List ℕ → List ℕ → ℕ
@@ -87,9 +84,9 @@ pub record Demand1 : Type 0 where
   pub bytes : (ear c : ℕ) (p : Pool) (q : ℕ) (left right : List ℕ)
       → Refuses (earOf ear c p left right) (λ (x : ℕ × List ℕ). x .0) (λ r. (r, [])) (bytesRefusalOf ear c p q left right, bytesOf ear c p q left right)
   pub replay : (c : ℕ) (p : Pool) (log : List ℕ) → Replays c p log
-  -- lines: 1 or 7, else what a replay answers and leaves
+  -- lines: 1 or 7; else what a replay answers and leaves, with its text at the buffer's front
   pub lines-checked : (c : ℕ) (p : Pool) (log out : List ℕ) (r : ℕ) → roomOf c p log out ≡ suc r
       → printedOf c p log out ≡ leaves (printed (suc r) 0 0) (p, out)
-  pub lines-replay : (c : ℕ) (p : Pool) (log out : List ℕ) → roomOf c p log out ≡ 0
-      → (replayed (printedOf c p log out .answer .refusal) (printedOf c p log out .answer .position) ≡ replayOf c p log .answer)
-      × (printedOf c p log out .left .0 ≡ replayOf c p log .left)
+  pub lines-replay : (c : ℕ) (p : Pool) (log out : List ℕ) → roomOf c p log out ≡ 0 → (text : List ℕ) → text ≡ transcript c (runOf c p log)
+      → printedOf c p log out
+      ≡ leaves (printed (replayOf c p log .answer .refusal) (replayOf c p log .answer .position) (length text)) (replayOf c p log .left, sets out 0 text)

@@ -6,7 +6,7 @@
 use mathlib.Core.Path.{_≡_}
 use mathlib.Core.Logic.{_≢_, _↔_}
 use mathlib.Core.Bool.{Bool, true, false}
-use mathlib.Core.List.{List, [], _++_, List·Memᴰ}
+use mathlib.Core.List.{List, [], _∷_, _++_, List·Memᴰ}
 use Prim.Native.Nat.{ℕ, suc, _+_, _*_, _≤_, _<_}
 use lib.ListN.{length, take, drop}
 use Rattle.refusals.specs.Refusals.{tooBig, noRoom, noBlock, freeSlot, shortRoom, badField}
@@ -26,12 +26,13 @@ use Rattle.next.specs.Next.{answered, nextOf}
 use Rattle.census.specs.Census.{wordsFor, counted, censusOf}
 use Rattle.totals.specs.Totals.{given, runPages, totalled, totalsOf}
 use Rattle.bytes.specs.Bytes.{chosen, earFits, bytesOf, bytesRefusalOf}
+use Rattle.requestlog.specs.declared.Field.{Field}
 use Rattle.requestlog.specs.declared.Field.the-variants.{Start, Reserve, Release, End}
 use Rattle.requestlog.specs.declared.Cursor.{Cursor}
 use Rattle.requestlog.specs.declared.Read.the-variants.{Next, Done, Refused}
-use Rattle.requestlog.specs.Log.{outset, readAt}
+use Rattle.requestlog.specs.Log.{written, outset, readAt}
 use Rattle.replay.specs.declared.Event.the-variants.{Started, Ended}
-use Rattle.replay.specs.Run.{reserveEvent, releaseEvent, Run, ended, withEvent, runOf}
+use Rattle.replay.specs.Run.{reserveEvent, releaseEvent, doField, Run, ended, withEvent, runOf}
 
 -- ---- reserve (RULES 5.2)
 
@@ -126,6 +127,23 @@ pub data Plays (c : ℕ) (log : List ℕ) : Cursor → Pool → Run → Type 0 w
   -- the end changes nothing
   end-field : {k j : Cursor} {p : Pool} {x : Run} → readAt log k ≡ Next End j → Plays c log j p x → Plays c log k p (withEvent Ended x)
 
+-- a call that a log can hold: a reserve or a release, of a number of 32 bits
+abbrev pub Loggable : Field → Type 0
+Loggable (Start n) = ⊥
+Loggable (Reserve n) = n < 4294967296
+Loggable (Release q) = q < 4294967296
+Loggable End = ⊥
+
+-- such calls as fields, with the end behind them
+abbrev pub logged : List Field → List ℕ
+logged [] = written End
+logged (f ∷ l) = written f ++ logged l
+
+-- what they do to a pool, one after another
+abbrev pub inTurn : ℕ → Pool → List Field → Run
+inTurn c p [] = withEvent Ended (ended 0 0 p)
+inTurn c p (f ∷ l) = withEvent (doField c p f .answer) (inTurn c (doField c p f .left) l)
+
 -- ---- the claim
 
 -- of a sound pool p of c chunks
@@ -177,3 +195,6 @@ pub record Demand2 : Type 0 where
   pub fresh : (c : ℕ) (p : Pool) → fit c p ≡ true → (freshOf c p .answer ≡ 0) × Good c (freshOf c p .left) × (live c (freshOf c p .left) ≡ [])
   -- and there a replay runs as its rules say: `replayOf` and `printedOf` tell and leave this run
   pub replay : (c : ℕ) (p : Pool) (log : List ℕ) → fit c p ≡ true → (x : Run) → Plays c log outset p x ↔ (runOf c p log ≡ x)
+  -- so the log of any calls is accepted, and does these calls on a fresh pool
+  pub log : (c : ℕ) (p : Pool) (calls : List Field) → fit c p ≡ true → ((f : Field) → List·Memᴰ f calls → Loggable f)
+      → runOf c p (written (Start c) ++ logged calls) ≡ withEvent (Started c) (inTurn c (freshOf c p .left) calls)

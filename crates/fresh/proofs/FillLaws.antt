@@ -10,12 +10,13 @@ use lib.Dec.{eqb}
 use lib.ListN.{length, getD, set, length-set}
 use lib.Seq.{ext-getD, getD-set-same, getD-set-other}
 use borrow.Author.Tests.{eq-eqb, ne-eqb}
+use Rattle.refusals.proofs.CallLaws.{refused}
 use Rattle.records.specs.Kinds.{edgeWord, zeros}
 use Rattle.records.specs.Pool.{Pool, pool}
-use Rattle.records.specs.Calls.{fit, leaves, repeat, freshPool, freshOf}
+use Rattle.records.specs.Calls.{fit, shapeOf, leaves, repeat, freshPool, freshOf}
 use Rattle.records.proofs.KindLaws.{length-zeros, getD-zeros}
 use Rattle.records.proofs.FreshLaws.{length-repeat, fresh-bits, fresh-words, fresh-served}
-use Rattle.records.proofs.AdmitLaws.{shaped-lengths}
+use Rattle.records.proofs.AdmitLaws.{shaped-lengths, shape-unfit}
 use Rattle.fresh.specs.Fill.{each, Filled}
 
 pub each-is : (m v i : ℕ) → i % m ≡ 0 → v ≡ each m v i
@@ -77,4 +78,4 @@ fresh-made c p b w s t e v x is y z =
 
 pub fresh-not : (c : ℕ) (p : Pool) (t : Bool) → t ≡ fit c p → t ≡ false → leaves 1 p ≡ freshOf c p
 unfolding freshOf
-fresh-not c p t e v = sym (ap (λ (q : Bool). cond q (leaves 0 (freshPool c)) (leaves 1 p)) (sym e ∙ v))
+fresh-not c p t e v = refused (shapeOf c p) 1 (λ r. leaves r p) (leaves 0 (freshPool c)) (shape-unfit c p (sym e ∙ v)) (omega arith)

@@ -8,7 +8,7 @@ use lib.ListN.{length}
 use borrow.Author.Tests.{leb-true, eqb-true, le-leb, eq-eqb}
 use Rattle.records.specs.Pool.{Pool}
 use Rattle.records.specs.Sound.{sound}
-use Rattle.records.specs.Calls.{shaped, fit, admitOf}
+use Rattle.records.specs.Calls.{shaped, fit, shapeOf, admitOf}
 use Rattle.records.proofs.Flags.{and-made, and-left, and-right}
 
 -- the shape of a pool of c chunks
@@ -55,6 +55,22 @@ Shape c p = Lengths c (length (p .bits)) (length (p .words)) (length (p .slots))
 
 module _ (c : ℕ) (p : Pool) where
   -- ---- the answer
+
+  pub shape-unfit : fit c p ≡ false → _≡_ {A = ℕ} 1 (shapeOf c p)
+  unfolding shapeOf
+  shape-unfit e = sym (ap (λ (t : Bool). cond {A = ℕ} t 0 1) e)
+
+  pub shape-fit : fit c p ≡ true → _≡_ {A = ℕ} 0 (shapeOf c p)
+  unfolding shapeOf
+  shape-fit e = sym (ap (λ (t : Bool). cond {A = ℕ} t 0 1) e)
+
+  pub shape-fits : shapeOf c p ≡ 0 → fit c p ≡ true
+  unfolding shapeOf
+  shape-fits h = go (fit c p) h
+    where
+      go : (v : Bool) → _≡_ {A = ℕ} (cond v 0 1) 0 → v ≡ true
+      go true z = refl
+      go false z = absurd (omega arith)
 
   pub admit-unfit : fit c p ≡ false → _≡_ {A = ℕ} 1 (admitOf c p)
   unfolding admitOf

@@ -13,17 +13,18 @@ use lib.ListN.{length, getD, length-append, List·getD-append}
 use lib.Pow.{pow-mono}
 use lib.Seq.{getD-append-add}
 use borrow.Author.Tests.{eq-eqb, ne-eqb}
+use Rattle.refusals.proofs.CallLaws.{served}
 use Rattle.bitrow.specs.Row.{bit, bitAt, isSet}
 use Rattle.records.specs.declared.Kind.{Kind}
 use Rattle.records.specs.declared.Kind.the-variants.{Edge, Free}
 use Rattle.records.specs.Kinds.{edgeWord, kindOf, zeros, slotsOf}
 use Rattle.records.specs.Pool.{Pool, isEdge, kindAt, slotAt}
 use Rattle.records.specs.Sound.{named, clean, step, sound}
-use Rattle.records.specs.Calls.{fit, leaves, repeat, freshPool, freshOf}
+use Rattle.records.specs.Calls.{fit, shapeOf, leaves, repeat, freshPool, freshOf}
 use Rattle.records.proofs.Flags.{all-of}
 use Rattle.records.proofs.KindLaws.{length-zeros, getD-zeros, kind-edge, kind-free}
 use Rattle.records.proofs.WalkLaws.{walk, walk-step, walks-sound}
-use Rattle.records.proofs.AdmitLaws.{lengths-shaped}
+use Rattle.records.proofs.AdmitLaws.{lengths-shaped, shape-fit}
 
 -- ---- chunks alike
 
@@ -151,4 +152,4 @@ fresh-fit c l h =
 -- the fresh call, where it is served
 pub fresh-served : (c : ℕ) (p : Pool) → fit c p ≡ true → freshOf c p ≡ leaves 0 (freshPool c)
 unfolding freshOf
-fresh-served c p e = ap (λ (t : Bool). cond t (leaves 0 (freshPool c)) (leaves 1 p)) e
+fresh-served c p e = sym (served (shapeOf c p) 0 (λ r. leaves r p) (leaves 0 (freshPool c)) (shape-fit c p e) refl)

@@ -1,11 +1,11 @@
 -- Refusals 1 and 2, what a call leaves, and the fresh call (RULES 4, 5.1).
 -- Assumes nothing.
-use mathlib.Core.Bool.{Bool, cond, _&&_}
+use mathlib.Core.Bool.{Bool, _&&_}
 use mathlib.Core.List.{List, [], _∷_, _++_}
 use Prim.Native.Nat.{ℕ, zero, suc, _*_}
 use lib.Dec.{eqb, leb}
 use lib.ListN.{length}
-use Rattle.refusals.specs.Refusals.{shape, damaged, Check, firstOf}
+use Rattle.refusals.specs.Refusals.{shape, damaged, Check, firstOf, unless}
 use Rattle.records.specs.Kinds.{edgeWord, zeros}
 use Rattle.records.specs.Pool.{Pool, pool}
 use Rattle.records.specs.Sound.{sound}
@@ -17,6 +17,10 @@ shaped c nbits nwords nslots =
 
 abbrev pub fit : ℕ → Pool → Bool
 fit c p = shaped c (length (p .bits)) (length (p .words)) (length (p .slots))
+
+-- what a call checks that makes no use of the records: the refusal that it gives, else 0
+unfoldable pub shapeOf : ℕ → Pool → ℕ
+shapeOf c p = firstOf ((fit c p, shape) ∷ [])
 
 -- what each call on an existing pool checks first, in this order
 abbrev pub checks : ℕ → Pool → List Check
@@ -45,4 +49,4 @@ freshPool c = pool (repeat c (1 ∷ zeros 7)) (repeat c (edgeWord ∷ zeros 511)
 
 -- the call: it checks only the shape
 unfoldable pub freshOf : ℕ → Pool → Left ℕ Pool
-freshOf c p = cond (fit c p) (leaves 0 (freshPool c)) (leaves shape p)
+freshOf c p = unless (shapeOf c p) (λ r. leaves r p) (leaves 0 (freshPool c))
