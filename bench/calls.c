@@ -5,12 +5,14 @@
  * Every call reads all records, for the check.
  */
 #include "lensember.h"
+#include "recipes.h"
 #include "timing.h"
 
 #include <stdio.h>
 #include <stdlib.h>
+#include <string.h>
 
-enum { ROW = 24, TABLE = 5000 };
+enum { ROW = 24, TABLE = 5000, LARGEST_TABLE = 2093056 };
 
 /* The pool is filled by these in turn. */
 static const uint64_t sizes[] = {
@@ -121,6 +123,115 @@ static void make_half(size_t c)
     count = kept;
 }
 
+/* ---- Pools to sweep --------------------------------------------------------- */
+
+/* Page bits and page words as they were made: a sweep changes nothing else. */
+static uint64_t made_bits[MAX_CHUNKS * BIT_WORDS];
+static uint32_t made_words[MAX_CHUNKS * PAGES];
+
+/* What is answered on the pool: whether a sweep gains pages, and how reserves are refused. */
+static struct {
+    bool gains;
+    uint64_t largest, row;
+} right;
+
+static void made(size_t c, bool gains, uint64_t largest, uint64_t row_refusal)
+{
+    memcpy(made_bits, bits, c * BIT_WORDS * sizeof *bits);
+    memcpy(made_words, words, c * PAGES * sizeof *words);
+    right.gains = gains;
+    right.largest = largest;
+    right.row = row_refusal;
+}
+
+static void make_by(const struct recipe *recipe, size_t c)
+{
+    struct records pool = {c, bits, words, slots};
+    struct rng rng = {c};
+
+    count = 0;
+    generate(&pool, recipe, &rng);
+}
+
+static void make_runs_of_class_0(size_t c, enum fill fill)
+{
+    struct recipe recipe = recipe_of_class(0, fill);
+
+    make_by(&recipe, c);
+}
+
+/* Of the first run of slots from the middle of each chunk on, one slot is taken. */
+static void take_slot_a_chunk(size_t c)
+{
+    for (size_t k = 0; k < c; k++) {
+        size_t page = PAGES * k + PAGES / 2;
+
+        while (words[page] >= UINT32_C(0xC0000000))
+            page++;
+        slots[SLOT_WORDS / PAGES * page] = 1;
+    }
+}
+
+/* A full pool of which every block was given back. */
+static void make_dropped(size_t c)
+{
+    make_full(c);
+    for (size_t i = 0; i < count; i++)
+        must(release(c, blocks[i].place), "release");
+    count = 0;
+    made(c, true, LENSEMBER_OK, LENSEMBER_OK);
+}
+
+/* Nothing but empty runs, of all 30 classes in any order or of the one with the most slots. */
+static void make_empty(size_t c)
+{
+    make_by(recipe_named("classes-empty"), c);
+    made(c, true, LENSEMBER_OK, LENSEMBER_OK);
+}
+
+static void make_empty_0(size_t c)
+{
+    make_runs_of_class_0(c, FILL_EMPTY);
+    made(c, true, LENSEMBER_OK, LENSEMBER_OK);
+}
+
+/* A third of the runs is empty, in any order. */
+static void make_some_empty(size_t c)
+{
+    make_by(recipe_named("classes-any-fill"), c);
+    made(c, true, LENSEMBER_NO_ROOM, LENSEMBER_OK);
+}
+
+/* Nothing but empty runs and one taken slot: no chunk can be had whole. */
+static void make_split(size_t c)
+{
+    make_by(recipe_named("classes-empty"), c);
+    take_slot_a_chunk(c);
+    made(c, true, LENSEMBER_NO_ROOM, LENSEMBER_OK);
+}
+
+static void make_split_0(size_t c)
+{
+    make_runs_of_class_0(c, FILL_EMPTY);
+    take_slot_a_chunk(c);
+    made(c, true, LENSEMBER_NO_ROOM, LENSEMBER_OK);
+}
+
+/* Without an empty run, and without room. */
+static void make_no_room(size_t c)
+{
+    make_full(c);
+    put(c, ROW);
+    put(c, TABLE);
+    made(c, false, LENSEMBER_NO_ROOM, LENSEMBER_NO_ROOM);
+}
+
+static void make_no_room_0(size_t c)
+{
+    make_runs_of_class_0(c, FILL_FULL);
+    made(c, false, LENSEMBER_NO_ROOM, LENSEMBER_NO_ROOM);
+}
+
 /* ---- What is timed --------------------------------------------------------- */
 
 /* Puts a block's bits and word down or away, without a call: so a reserve and a
@@ -229,34 +340,94 @@ static uint64_t total(size_t c)
     return lensember_totals(c, LENT(c)).refusal;
 }
 
+/* Behind each call that changed something; timed alone too. */
+static uint64_t put_back(size_t c)
+{
+    memcpy(bits, made_bits, c * BIT_WORDS * sizeof *bits);
+    memcpy(words, made_words, c * PAGES * sizeof *words);
+    return LENSEMBER_OK;
+}
+
+static uint64_t sweep(size_t c)
+{
+    struct lensember_swept swept = lensember_sweep(c, LENT(c));
+
+    if (swept.pages > 0)
+        put_back(c);
+    return swept.refusal == LENSEMBER_OK && (swept.pages > 0) == right.gains ? 0 : 1;
+}
+
+static uint64_t reserve_and_put_back(size_t c, uint64_t size, uint64_t refusal)
+{
+    struct lensember_reserved block = reserve(c, size);
+
+    if (block.refusal == LENSEMBER_OK) {
+        if (block.kind == LENSEMBER_SLOT)
+            set_slot(&block, false);
+        put_back(c);
+    }
+    return block.refusal == refusal ? 0 : 1;
+}
+
+static uint64_t reserve_largest(size_t c)
+{
+    return reserve_and_put_back(c, LARGEST_TABLE, right.largest);
+}
+
+static uint64_t reserve_any_row(size_t c)
+{
+    return reserve_and_put_back(c, ROW, right.row);
+}
+
 /* ---- What is printed -------------------------------------------------------- */
 
-enum { COLUMNS = 4 };
+enum { COLUMNS = 4, POOLS = 8 };
+
+struct pool_kind {
+    const char *name;
+    void (*make)(size_t c);
+};
 
 struct sheet {
     const char *heads[COLUMNS];
     timed_call *calls[COLUMNS + 1]; /* the yardstick first */
+    struct pool_kind pools[POOLS];  /* the last ones may be left out */
 };
+
+#define FRESH_HALF_FULL {{"fresh", make_fresh}, {"half", make_half}, {"full", make_full}}
 
 static const struct sheet sheets[] = {
     {{"reserve row", "release row", "reserve table", "release table"},
-     {call_or, reserve_row, release_row, reserve_table, release_table}},
+     {call_or, reserve_row, release_row, reserve_table, release_table},
+     FRESH_HALF_FULL},
     {{"size of row", "size of table", "next, first", "next, none"},
-     {call_or, size_row, size_table, next_first, next_none}},
+     {call_or, size_row, size_table, next_first, next_none},
+     FRESH_HALF_FULL},
     {{"census", "totals", "check", "check again"},
-     {call_or, list_blocks, total, check, check}},
+     {call_or, list_blocks, total, check, check},
+     FRESH_HALF_FULL},
+    {{"sweep", "reserve 511", "reserve row", "put back"},
+     {call_or, sweep, reserve_largest, reserve_any_row, put_back},
+     {{"dropped", make_dropped},
+      {"empty runs", make_empty},
+      {"of class 0", make_empty_0},
+      {"split", make_split},
+      {"of class 0", make_split_0},
+      {"some empty", make_some_empty},
+      {"no room", make_no_room},
+      {"of class 0", make_no_room_0}}},
 };
 
-static void measure(const struct sheet *sheet, const char *name, void (*make)(size_t), size_t c)
+static void measure(const struct sheet *sheet, const struct pool_kind *pool, size_t c)
 {
     double best[COLUMNS + 1];
 
-    make(c);
+    pool->make(c);
     choose_blocks();
     for (unsigned n = 1; n <= COLUMNS; n++)
         must(sheet->calls[n](c), sheet->heads[n - 1]);
     time_calls(sheet->calls, best, COLUMNS + 1, c);
-    printf("%-6s %2zu %8.3f", name, c, best[0]);
+    printf("%-10s %2zu %8.3f", pool->name, c, best[0]);
     for (unsigned n = 1; n <= COLUMNS; n++)
         printf(" %8.3f %6.2f", best[n], best[n] / best[0]);
     printf("\n");
@@ -265,21 +436,24 @@ static void measure(const struct sheet *sheet, const char *name, void (*make)(si
 
 static void measure_sheet(const struct sheet *sheet)
 {
-    printf("%-6s %2s %8s", "pool", "c", "or us");
+    printf("%-10s %2s %8s", "pool", "c", "or us");
     for (unsigned n = 0; n < COLUMNS; n++)
         printf(" %15s", sheet->heads[n]);
     printf("\n");
-    for (size_t c = 1; c <= MAX_CHUNKS; c += MAX_CHUNKS - 1) {
-        measure(sheet, "fresh", make_fresh, c);
-        measure(sheet, "half", make_half, c);
-        measure(sheet, "full", make_full, c);
-    }
+    for (size_t c = 1; c <= MAX_CHUNKS; c += MAX_CHUNKS - 1)
+        for (size_t i = 0; i < POOLS && sheet->pools[i].make != NULL; i++)
+            measure(sheet, &sheet->pools[i], c);
 }
 
 int main(void)
 {
     for (size_t i = 0; i < sizeof sheets / sizeof sheets[0]; i++)
         measure_sheet(&sheets[i]);
-    printf("microseconds a chunk, then the multiple of the OR\n");
+    printf("microseconds a chunk, then the multiple of the OR\n"
+           "the last sheet: a full pool of which all was given back; pools of empty runs, of 30\n"
+           "classes in any order or of class 0; the same with one taken slot in each chunk, so\n"
+           "that 511 pages are refused after a search in vain; a third of the runs empty; full\n"
+           "pools, where both reserves are refused. Where a call changed something its time has\n"
+           "what puts that back, which the last column has alone\n");
     return 0;
 }

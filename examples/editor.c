@@ -5,7 +5,7 @@
  * is a block that holds the places of its rows.
  *
  * The editor enters a table, copies it to the other ear, trims it, drops it,
- * lists what is left, survives a damaged record, and says what it did.
+ * lists what is left, survives a damaged record, sweeps, and says what it did.
  */
 #include "lensember.h"
 
@@ -242,6 +242,15 @@ static void print_totals(const struct ear *ear)
            ear->name, sums.blocks, sums.bytes, sums.free_pages);
 }
 
+/* Of the dropped rows the pages are free again for anything, not for rows alone. */
+static void sweep(struct ear *ear)
+{
+    struct lensember_swept swept = lensember_sweep(CHUNKS, LENT(ear));
+
+    must(swept.refusal, "sweep");
+    printf("%s ear: a sweep gains %" PRIu64 " pages\n", ear->name, swept.pages);
+}
+
 /* All blocks in one call. Totals say how much room the list needs. */
 static void list_by_census(const struct ear *ear)
 {
@@ -295,12 +304,13 @@ static void try_all_calls(struct ear *ear, uint64_t live)
     uint64_t room[2];
 
     printf("%s ear: check %" PRIu64 ", reserve %" PRIu64 ", release %" PRIu64
-           ", block size %" PRIu64 ", next %" PRIu64 ", census %" PRIu64 ", totals %" PRIu64
-           ", bytes %" PRIu64 "\n",
+           ", sweep %" PRIu64 ", block size %" PRIu64 ", next %" PRIu64 ", census %" PRIu64
+           ", totals %" PRIu64 ", bytes %" PRIu64 "\n",
            ear->name,
            lensember_check(CHUNKS, LENT(ear)),
            lensember_reserve(CHUNKS, LENT(ear), sizeof(struct row)).refusal,
            lensember_release(CHUNKS, LENT(ear), live),
+           lensember_sweep(CHUNKS, LENT(ear)).refusal,
            lensember_block_size(CHUNKS, LENT(ear), live).refusal,
            lensember_next(CHUNKS, LENT(ear), 0).refusal,
            lensember_census(CHUNKS, LENT(ear), room, 2).refusal,
@@ -352,5 +362,7 @@ int main(void)
     read_out(&other);
     print_totals(&left);
     print_totals(&right);
+    sweep(&left);
+    print_totals(&left);
     return 0;
 }

@@ -1,7 +1,7 @@
 /*
  * A first look at Lensember: lend the buffers of one chunk, make a fresh pool,
- * reserve a row and a table, list them, give the row back, check the records,
- * damage one bit, and see that the check notices.
+ * reserve a row and a table, list them, give the row back, sweep, check the
+ * records, damage one bit, and see that the check notices.
  */
 #include "lensember.h"
 
@@ -71,6 +71,18 @@ static int release_twice(uint64_t place)
     return once == LENSEMBER_OK && again == LENSEMBER_FREE_SLOT;
 }
 
+/*
+ * The page of the row still belongs to rows of its size. A sweep frees it for
+ * any request; a reserve that finds no room sweeps by itself, and then takes it.
+ */
+static int sweep(void)
+{
+    struct lensember_swept swept = lensember_sweep(1, LENT);
+
+    printf("sweep gains %" PRIu64 " page\n", swept.pages);
+    return swept.refusal == LENSEMBER_OK && swept.pages == 1;
+}
+
 static const char *meaning(uint64_t answer)
 {
     switch (answer) {
@@ -97,7 +109,7 @@ int main(void)
 {
     uint64_t fresh, sound, damaged;
     struct lensember_reserved row, table;
-    int read, released;
+    int read, released, swept;
 
     printf("a pool of 1 chunk: %d bytes in %d pages\n",
            LENSEMBER_CHUNK_BYTES, LENSEMBER_CHUNK_PAGES);
@@ -109,6 +121,7 @@ int main(void)
     table = reserve("a table", 5000);
     read = total() && walk() && list();
     released = release_twice(row.place);
+    swept = sweep() && total();
     sound = check();
 
     bits[0] ^= UINT64_C(1) << 7;
@@ -116,6 +129,6 @@ int main(void)
     damaged = check();
 
     return fresh == LENSEMBER_OK && row.kind == LENSEMBER_SLOT
-            && table.kind == LENSEMBER_RUN && read && released
+            && table.kind == LENSEMBER_RUN && read && released && swept
             && sound == LENSEMBER_OK && damaged == LENSEMBER_DAMAGED ? 0 : 1;
 }

@@ -14,6 +14,7 @@
  *   k             check
  *   r N           reserve
  *   f Q           release
+ *   w             sweep
  *   b Q           block size
  *   n Q           next
  *   e N           census in a room of N words more than it needs; -N: fewer
@@ -184,6 +185,7 @@ static void expect_all_refuse(struct twin *twin, uint64_t number)
     expect(library_check(r) == 2, "check");
     expect(library_reserve(r, number).refusal == 2, "reserve");
     expect(library_release(r, live) == 2, "release");
+    expect(library_sweep(r).refusal == 2, "sweep");
     expect(library_block_size(r, live).refusal == 2, "block size");
     expect(library_next(r, number).refusal == 2, "next");
     expect(library_census(r, room, 2).refusal == 2 && room[0] == 1 && room[1] == 2, "census");
@@ -232,7 +234,7 @@ static struct log_outcome replay_by_model(struct twin *twin, const uint8_t *log,
     struct log_outcome right =
         log_replay(&twin->model, twin->model.c, log, nlog, &right_lines);
 
-    twin->model.touched.pages = 0;
+    pool_untouch(&twin->model);
     if (right.started)
         pool_write(&twin->model, &twin->right);
     return right;
@@ -258,7 +260,7 @@ static bool print(struct twin *twin, const uint8_t *log, size_t nlog, size_t nou
     uint8_t *out = lend_out(nout);
     struct lensember_printed answer =
         library_lines(&twin->lent, lend_log(log, nlog), nlog, out, nout);
-    struct log_outcome right = {7, 0, false, 0, {0}, {0}};
+    struct log_outcome right = {7, 0, false, 0, {0}, {0}, 0, 0};
 
     right_lines.length = 0;
     if (enough)
@@ -317,6 +319,8 @@ static void try_shape(uint64_t c, struct lengths n)
                == 1, "reserve");
     expect(lensember_release(c, r.bits, n.bits, r.words, n.words, r.slots, n.slots, 4096) == 1,
            "release");
+    expect(lensember_sweep(c, r.bits, n.bits, r.words, n.words, r.slots, n.slots).refusal == 1,
+           "sweep");
     expect(lensember_block_size(c, r.bits, n.bits, r.words, n.words, r.slots, n.slots, 4096).refusal
                == 1, "block size");
     expect(lensember_bytes(c, r.bits, n.bits, r.words, n.words, r.slots, n.slots, 0, 4096,
@@ -440,6 +444,9 @@ static void call_sound(struct input *input, struct twin *twin, uint8_t letter)
         break;
     case 'f':
         twin_release(twin, take_number(input));
+        break;
+    case 'w':
+        twin_sweep(twin);
         break;
     case 'b':
         twin_block_size(twin, take_number(input));

@@ -53,7 +53,7 @@
 #define LENSEMBER_SHAPE 1      /* c not 1 to 16, a length not the exact one, or no such ear */
 #define LENSEMBER_DAMAGED 2    /* the records are not those of any pool */
 #define LENSEMBER_TOO_BIG 3    /* more than 2,093,056 bytes are asked for */
-#define LENSEMBER_NO_ROOM 4    /* no free slot of the class and no long enough gap */
+#define LENSEMBER_NO_ROOM 4    /* no free slot of the class and no long enough gap, swept or not */
 #define LENSEMBER_NO_BLOCK 5   /* no block or slot starts at that place */
 #define LENSEMBER_FREE_SLOT 6  /* a slot starts there and is free */
 #define LENSEMBER_SHORT_ROOM 7 /* less room was lent than a census or lines needs */
@@ -131,13 +131,19 @@ struct lensember_reserved {
  * its own. Pages come from the first chunk that has a gap of that length; in
  * it from the shortest such gap, the lower one on a tie.
  *
+ * Where there is no room, the search is made once more on the pool as a sweep
+ * would leave it. If it succeeds, all empty runs are swept, not only those in
+ * the way, and the block is taken; if not, nothing is swept. A request that is
+ * served at once sweeps nothing.
+ *
  *   LENSEMBER_OK       the block is taken, and the records say so
  *   LENSEMBER_SHAPE    c is not 1 to 16, or a buffer is not of the exact length
  *   LENSEMBER_DAMAGED  the lengths are right and the contents are damaged
  *   LENSEMBER_TOO_BIG  size is above 2,093,056
- *   LENSEMBER_NO_ROOM  up to 3,072 bytes: the class has no free slot, and no
- *                      chunk has a long enough gap for a run of the class;
- *                      more bytes: no chunk has a long enough gap
+ *   LENSEMBER_NO_ROOM  even after a sweep there would be no room. Up to 3,072
+ *                      bytes: the class has no free slot, and no chunk has a
+ *                      long enough gap for a run of the class; more bytes: no
+ *                      chunk has a long enough gap
  *
  * The refusals are checked in this order. A refused call changes nothing.
  */
@@ -150,7 +156,8 @@ struct lensember_reserved lensember_reserve(uint64_t c,
 /*
  * Gives the block that starts at `place` back; any number may be given. The
  * pages of a page run are free for any request again. A slot is free for its
- * class again; its run stays with the class, even when all its slots are free.
+ * class again. Its run stays with the class, even when all its slots are free,
+ * until a sweep.
  *
  *   LENSEMBER_OK         the block is free, and the records say so
  *   LENSEMBER_SHAPE      c is not 1 to 16, or a buffer is not of the exact length
@@ -167,6 +174,32 @@ uint64_t lensember_release(uint64_t c,
                            uint32_t *words, size_t nwords,
                            uint64_t *slots, size_t nslots,
                            uint64_t place);
+
+/* The answer to a sweep. On a refusal there are no pages. */
+struct lensember_swept {
+    uint64_t refusal; /* LENSEMBER_OK, or the number of the refusal */
+    uint64_t pages;   /* pages gained: free now, and in a run before */
+};
+
+/*
+ * Gives all empty runs back: the pages of each run of slots that has no taken
+ * slot are free for any request again. No block is touched: a census lists the
+ * same before and after. That there is no such run is no refusal; then no page
+ * is gained and nothing is changed.
+ *
+ * There is no need to sweep before a reserve, which does it where it would be
+ * refused by LENSEMBER_NO_ROOM otherwise.
+ *
+ *   LENSEMBER_OK       no empty run is left, and so many pages were gained
+ *   LENSEMBER_SHAPE    c is not 1 to 16, or a buffer is not of the exact length
+ *   LENSEMBER_DAMAGED  the lengths are right and the contents are damaged
+ *
+ * The refusals are checked in this order. A refused call changes nothing.
+ */
+struct lensember_swept lensember_sweep(uint64_t c,
+                                       uint64_t *bits, size_t nbits,
+                                       uint32_t *words, size_t nwords,
+                                       uint64_t *slots, size_t nslots);
 
 /* The answer to block size. On a refusal the size is 0. */
 struct lensember_sized {
@@ -265,7 +298,8 @@ struct lensember_summed {
  *
  * The free pages, the pages in runs and one page a chunk are all 512 * c pages
  * of the pool. A run of slots keeps its pages even when all its slots are free,
- * so a pool without live blocks may have fewer free pages than a fresh one.
+ * until a sweep, so a pool without live blocks may have fewer free pages than a
+ * fresh one. What a sweep would gain is not counted.
  *
  *   LENSEMBER_OK       these are the totals
  *   LENSEMBER_SHAPE    c is not 1 to 16, or a buffer is not of the exact length
@@ -338,7 +372,8 @@ struct lensember_replayed {
  *
  * Start comes first and once, end comes last. A start makes a fresh pool, so the
  * records may hold anything before it; its count must be c. A reserve or release
- * that is refused does not end the replay. The log is only read.
+ * is that call: a reserve may sweep, and one that is refused does not end the
+ * replay. The log is only read.
  *
  *   LENSEMBER_OK         the whole log was replayed
  *   LENSEMBER_SHAPE      c is not 1 to 16, or a record buffer is not of the exact

@@ -6,18 +6,24 @@
  *   - the size given, for every request from 0 to 2,093,056 bytes;
  *   - the place of every run of pages, large runs and runs of slots alike, while
  *     blocks are reserved and released at random;
- *   - the place of every slot of a class of which none was released yet.
+ *   - the place of every slot of a class of which none was released yet;
+ *   - the pages that a sweep gains after drops, as long as no slot was taken again.
  *
  * Where the rules differ nothing is compared:
  *
  *   - of several free slots of a class PHP hands out the one freed last, this
  *     house the lowest. Both cut a new run only when there is none, so the runs
  *     lie alike all the same;
- *   - without room PHP takes a new chunk, and a pool refuses with 4. A large run
- *     that got a chunk of its own this way counts as refused and is given back;
- *     a slot is not asked for then, since its run would stay;
- *   - a chunk without any run goes back to the system, and a pool keeps its
- *     chunks. So one run is left alone in each of several chunks;
+ *   - without room PHP takes a new chunk, and a pool sweeps or refuses with 4. A
+ *     large run that got a chunk of its own this way counts as refused and is given
+ *     back; a slot is not asked for then, since its run would stay;
+ *   - PHP sweeps at its memory limit only. By then other runs are empty than the
+ *     pool's, since other slots were taken again. So what a sweep gave the pool is
+ *     undone and counts as refused; but after drops PHP is told to sweep too;
+ *   - PHP never sweeps a run of class 0, so these drops have none;
+ *   - a chunk without any run goes back to the system, after a sweep even the first
+ *     one, without which a heap is lost, and a pool keeps its chunks. So one run is
+ *     left alone in each of several chunks, and where PHP sweeps;
  *   - PHP moves a chunk forward when three others were searched before it for
  *     fewer than 8 pages. So four chunks and more are compared with 8 and more
  *     pages only;
@@ -42,6 +48,7 @@ void zend_mm_shutdown(zend_mm_heap *heap, bool full, bool silent);
 void *_zend_mm_alloc(zend_mm_heap *heap, size_t size);
 void _zend_mm_free(zend_mm_heap *heap, void *block);
 size_t _zend_mm_block_size(zend_mm_heap *heap, void *block);
+size_t zend_mm_gc(zend_mm_heap *heap); /* a sweep: the bytes gained */
 
 /* Chunks start at multiples of their size. */
 static uintptr_t chunk_start(const void *block)
@@ -61,7 +68,8 @@ struct pair {
 };
 
 struct beside {
-    struct records pool;
+    struct records pool, before; /* and as it was before a reserve */
+    bool both_sweep;             /* else the pool's sweeps are undone */
     zend_mm_heap *heap;
     uintptr_t chunks[MAX_CHUNKS]; /* of the heap, in the order in which it took them */
     size_t known;                 /* how many of these */
@@ -82,6 +90,7 @@ static struct beside *beside_new(size_t c)
         exit(2);
     }
     beside->pool = lent_new(c);
+    beside->before = lent_new(c);
     library_fresh(&beside->pool);
     beside->heap = zend_mm_startup();
     return beside;
@@ -91,6 +100,7 @@ static void beside_free(struct beside *beside)
 {
     zend_mm_shutdown(beside->heap, true, true);
     lent_free(&beside->pool);
+    lent_free(&beside->before);
     free(beside->pairs);
     free(beside);
 }
@@ -140,10 +150,54 @@ static void compare_places(struct beside *beside, uint64_t size, uint64_t place,
            beside->pool.c, size, place, theirs);
 }
 
+/* Pages of the runs of slots that were there before, and are no more. */
+static uint64_t swept_pages(const struct beside *beside)
+{
+    uint64_t pages = 0;
+
+    for (size_t g = 0; g < beside->pool.c * PAGES; g++) {
+        uint32_t b = beside->before.words[g] - WORD_CLASS(0);
+        if (b < CLASSES && beside->pool.words[g] != beside->before.words[g])
+            pages += size_classes[b].pages;
+    }
+    return pages;
+}
+
+static unsigned long sweeps; /* that gained pages on both sides, of the group under way */
+
+static void compare_sweeps(struct beside *beside, uint64_t pages)
+{
+    size_t theirs = zend_mm_gc(beside->heap);
+
+    expect(pages * PAGE_BYTES == theirs, "c %zu: a sweep gains %" PRIu64 " pages, PHP's %zu bytes",
+           beside->pool.c, pages, theirs);
+    sweeps += pages > 0;
+}
+
+/* A reserve of the pool. One that had to sweep counts as refused, or PHP sweeps too. */
+static struct lensember_reserved reserve_ours(struct beside *beside, uint64_t size)
+{
+    static const struct lensember_reserved refused = {.refusal = LENSEMBER_NO_ROOM};
+    struct lensember_reserved ours;
+    uint64_t pages;
+
+    lent_copy(&beside->before, &beside->pool);
+    ours = library_reserve(&beside->pool, size);
+    pages = swept_pages(beside);
+    if (pages == 0)
+        return ours;
+    if (beside->both_sweep) {
+        compare_sweeps(beside, pages);
+        return ours;
+    }
+    lent_copy(&beside->pool, &beside->before);
+    return refused;
+}
+
 /* A slot's place is compared where the run is new, or none was ever released. */
 static void reserve_slot(struct beside *beside, uint64_t size)
 {
-    struct lensember_reserved ours = library_reserve(&beside->pool, size);
+    struct lensember_reserved ours = reserve_ours(beside, size);
     unsigned b = (unsigned)ours.class_number;
     void *theirs;
 
@@ -167,7 +221,7 @@ static unsigned long without_room; /* large runs of the group under way */
 /* Without room PHP's block lies in a chunk more, which is none of the pool's. */
 static void reserve_run(struct beside *beside, uint64_t size)
 {
-    struct lensember_reserved ours = library_reserve(&beside->pool, size);
+    struct lensember_reserved ours = reserve_ours(beside, size);
     void *theirs = _zend_mm_alloc(beside->heap, size);
 
     meet_chunk(beside, theirs);
@@ -327,15 +381,65 @@ static void test_runs(void)
     }
 }
 
+/* ---- Sweeps -------------------------------------------------------------------------- */
+
+/* PHP counts free slots in 9 bits, so it never takes 512 of them for an empty run. */
+static uint64_t draw_size_above_class_0(void)
+{
+    uint64_t size = rng_below(&rng, 8) ? draw_small_size() : draw_large_size(12);
+
+    return size > size_classes[0].size ? size : size_classes[1].size;
+}
+
+/* Blocks are reserved, then nearly all dropped: the same runs are empty on both sides. */
+static void drop_blocks(struct beside *beside)
+{
+    size_t alone = beside->count, kept;
+
+    for (unsigned i = rng_below(&rng, 600); i > 0; i--)
+        reserve(beside, draw_size_above_class_0());
+    kept = alone + rng_below(&rng, 12);
+    while (beside->count > kept)
+        release(beside, alone + rng_below(&rng, (unsigned)(beside->count - alone)));
+}
+
+/* Then come tables for which there is no room but by a sweep, and a sweep of its own. */
+static void run_morning(size_t c)
+{
+    struct beside *beside = beside_new(c);
+
+    leave_one_run_a_chunk(beside);
+    drop_blocks(beside);
+    beside->both_sweep = true;
+    if (rng_below(&rng, 4) == 0)
+        compare_sweeps(beside, library_sweep(&beside->pool).pages);
+    for (unsigned i = 0; i < 20; i++)
+        reserve(beside, draw_large_size(rng_below(&rng, 2) ? 40 : 500));
+    compare_sweeps(beside, library_sweep(&beside->pool).pages);
+    beside_free(beside);
+}
+
+static void test_sweeps(void)
+{
+    group_begin("php", "sweeps-after-drops");
+    sweeps = 0;
+    for (unsigned round = 0; round < 600; round++)
+        run_morning(1 + round % 3);
+    expect_least(sweeps, 300, "sweeps that gain pages");
+    group_end();
+}
+
 int main(int argc, char **argv)
 {
     program_begin(argc, argv);
     test_sizes();
     test_slots();
     test_runs();
+    test_sweeps();
     printf("compared: sizes given; places of page runs and runs of slots; places of slots of\n"
-           "classes of which none was released. Not compared, since the rules differ: which of\n"
-           "several free slots is given, what is done without room or with an empty chunk, the\n"
-           "order of four chunks and more for fewer than 8 pages, requests above 2093056\n");
+           "classes of which none was released; what a sweep after drops gains. Not compared,\n"
+           "since the rules differ: which of several free slots is given, and so which runs are\n"
+           "empty later; what is done without room or with an empty chunk; the order of four\n"
+           "chunks and more for fewer than 8 pages; requests above 2093056\n");
     return program_end("php");
 }

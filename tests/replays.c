@@ -339,6 +339,68 @@ static void test_full_pools(void)
     group_end();
 }
 
+/* ---- Mornings of drops --------------------------------------------------------------- */
+
+/* Rows of all classes and tables are entered, up to so many. */
+static void draft_entries(unsigned most)
+{
+    for (unsigned i = rng_below(&rng, most); i > 0; i--)
+        draft_reserve(&draft, rng_below(&rng, 12) ? draw_small_size() : draw_large_size(90));
+}
+
+/* Nearly all blocks are dropped, or only most of them. */
+static void draft_drops(void)
+{
+    unsigned long kept = rng_below(&rng, 4) ? rng_below(&rng, 4) : draft.guide.live.count / 4;
+
+    while (draft.guide.live.count > kept && draft.count < DRAFT_FIELDS - 1)
+        draft_release(&draft, draw_live_place(&draft.guide));
+}
+
+/* Then tables are asked for, and rows, until there is no room: the empty runs are in the way. */
+static void draft_tables(void)
+{
+    unsigned most_pages = rng_below(&rng, 3) ? 60 : 511, refused = 0;
+
+    while (refused < 4 && draft.count < DRAFT_FIELDS - 8) {
+        unsigned long live = draft.guide.live.count;
+        draft_reserve(&draft, draw_large_size(most_pages));
+        refused += draft.guide.live.count == live;
+        draft_reserve(&draft, draw_small_size());
+    }
+}
+
+static void draft_mornings(size_t c, unsigned mornings)
+{
+    draft_clear(&draft);
+    draft_start(&draft, c);
+    for (unsigned i = 0; i < mornings; i++) {
+        draft_entries(300);
+        draft_drops();
+        draft_tables();
+    }
+    draft_end(&draft);
+}
+
+static void test_mornings(void)
+{
+    unsigned long swept = outcomes.swept, in_vain = outcomes.in_vain;
+
+    group_begin("log", "mornings-of-drops-then-big-tables");
+    for (size_t c = 1; c <= MAX_CHUNKS; c++) {
+        struct stage *stage = stage_new(c);
+        for (unsigned n = 0; n < 12 + 160 / c; n++) {
+            stage_prepare_anyhow(stage);
+            draft_mornings(c, 1 + rng_below(&rng, 8));
+            expect(try_draft(stage).refusal == 0, "refused");
+        }
+        stage_free(stage);
+    }
+    expect_least(outcomes.swept - swept, 600, "served by a sweep");
+    expect_least(outcomes.in_vain - in_vain, 500, "refused in spite of empty runs");
+    group_end();
+}
+
 /* ---- Lengths of the buffer for the lines ------------------------------------------------ */
 
 /* Any of these logs, good or bad. */
@@ -583,9 +645,12 @@ static void replay_in_series(struct twin *twin)
 /* After each call the census lists the book of demand 3. */
 static void call_in_series(struct twin *twin)
 {
-    switch (rng_below(&rng, 8)) {
+    switch (rng_below(&rng, 9)) {
     case 0:
         replay_in_series(twin);
+        break;
+    case 8:
+        twin_sweep(twin);
         break;
     case 1:
         twin_next(twin, draw_next_place(&twin->model));
@@ -629,6 +694,7 @@ static void test_enough(void)
     expect_least(outcomes.reserves[0], 100000, "served");
     expect_least(outcomes.reserves[3], 1000, "too big");
     expect_least(outcomes.reserves[4], 1000, "without room");
+    expect_least(outcomes.swept, 700, "served by a sweep");
     expect_least(outcomes.releases[0], 30000, "released");
     expect_least(outcomes.releases[5], 5000, "at no block");
     expect_least(outcomes.releases[6], 1000, "at free slots");
@@ -649,6 +715,7 @@ int main(int argc, char **argv)
     test_spoilt_logs();
     test_noise();
     test_full_pools();
+    test_mornings();
     test_rooms();
     test_rooms_of_empty_log();
     test_longest_lines();

@@ -46,6 +46,13 @@ static void expect_release(struct twin *twin, uint64_t place, uint64_t number)
     expect(answer == number, "release %" PRIu64 ": %" PRIu64, place, answer);
 }
 
+static void expect_gain(struct twin *twin, uint64_t pages)
+{
+    uint64_t gained = twin_sweep(twin);
+
+    expect(gained == pages, "sweep gains %" PRIu64 " pages, not %" PRIu64, gained, pages);
+}
+
 static void expect_size(struct twin *twin, uint64_t place, uint64_t number, uint64_t size)
 {
     struct pool_sized answer = twin_block_size(twin, place);
@@ -220,16 +227,106 @@ static void sample_lowest_slot(struct twin *twin)
     expect_served(twin, 1000, 7 * PAGE_BYTES, 1024);
 }
 
-/* "the run stays with its class, even when all its slots are free" */
+/* "the run stays with its class, even when all its slots are free" until it is swept */
 static void sample_empty_run(struct twin *twin)
 {
     expect_served(twin, 3072, 4096, 3072);
     expect_release(twin, 4096, 0);
     expect_size(twin, 4096, 6, 0);
-    expect_refused(twin, 511 * PAGE_BYTES, 4);
     expect_served(twin, 508 * PAGE_BYTES, 4 * PAGE_BYTES, 508 * PAGE_BYTES);
-    expect_refused(twin, 24, 4);
+    expect_size(twin, 4096, 6, 0); /* served at the first try: nothing is swept */
     expect_served(twin, 3000, 4096, 3072);
+    expect_refused(twin, 24, 4);
+    expect_release(twin, 4096, 0);
+    expect_served(twin, 24, 4096, 24);
+    expect_size(twin, 2 * PAGE_BYTES, 5, 0); /* all three pages were swept */
+    expect_served(twin, 3073, 2 * PAGE_BYTES, 4096);
+}
+
+/* Blocks of every class, of some of them several runs; answers how many pages the runs have. */
+static uint64_t reserve_morning(struct twin *twin)
+{
+    for (unsigned round = 0; round < 9; round++)
+        for (unsigned b = 0; b < CLASSES; b++)
+            twin_reserve(twin, size_classes[b].size);
+    return pool_run_pages(&twin->model);
+}
+
+/* From the last place down, so that runs become empty in another order than they were cut. */
+static void drop_down_to(struct twin *twin, unsigned long blocks)
+{
+    while (twin->model.live.count > blocks)
+        expect_release(twin, book_at(&twin->model.live, twin->model.live.count - 1)->place, 0);
+}
+
+/* "After a morning of drops a big table was refused 4 with nothing live" */
+static void sample_morning(struct twin *twin)
+{
+    uint64_t pages = reserve_morning(twin);
+
+    drop_down_to(twin, 0);
+    expect_totals(twin, 0, 0, 511 - pages);
+    expect_served(twin, 2093056, 4096, 2093056);
+    expect_totals(twin, 1, 2093056, 0);
+    expect_release(twin, 4096, 0);
+    expect_totals(twin, 0, 0, 511);
+}
+
+/* One row is live still: "if not, the records stay unchanged" */
+static void sample_morning_but_one(struct twin *twin)
+{
+    uint64_t pages = reserve_morning(twin);
+    struct records before = lent_new(1);
+
+    drop_down_to(twin, 1);
+    lent_copy(&before, &twin->lent);
+    expect_refused(twin, 2093056, 4);
+    expect(lent_equal(&before, &twin->lent), "refused, and the records are not as they were");
+    expect_totals(twin, 1, 8, 511 - pages);
+    lent_free(&before);
+
+    expect_gain(twin, pages - 1);
+    expect_totals(twin, 1, 8, 510);
+    expect_refused(twin, 2093056, 4);
+    expect_served(twin, 510 * PAGE_BYTES, 2 * PAGE_BYTES, 510 * PAGE_BYTES);
+}
+
+/* "A call of its own sweeps at will and returns the pages gained." */
+static void sample_sweep(struct twin *twin)
+{
+    expect_gain(twin, 0);
+    expect_served(twin, 24, 4096, 24);
+    expect_served(twin, 320, 2 * PAGE_BYTES, 320);
+    expect_served(twin, 5000, 7 * PAGE_BYTES, 8192);
+    expect_gain(twin, 0);
+    expect_release(twin, 2 * PAGE_BYTES, 0);
+    expect_gain(twin, 5);
+    expect_gain(twin, 0);
+    expect_size(twin, 2 * PAGE_BYTES, 5, 0);
+    expect_census(twin, 4, 0, 2);
+    expect_release(twin, 4096, 0);
+    expect_gain(twin, 1);
+    expect_totals(twin, 1, 8192, 509);
+    expect_served(twin, 24, 4096, 24);
+}
+
+/* All runs are given back, those in other chunks too, though one page would do. */
+static void sample_all_are_swept(struct twin *twin)
+{
+    take_chunks(twin, 3);
+    for (size_t k = 0; k < 3; k++) {
+        expect_release(twin, k * CHUNK_BYTES + 4096, 0);
+        expect_served(twin, size_classes[20 + k].size, k * CHUNK_BYTES + 4096,
+                      size_classes[20 + k].size);
+        expect_served(twin, (511 - size_classes[20 + k].pages) * PAGE_BYTES,
+                      k * CHUNK_BYTES + (1 + size_classes[20 + k].pages) * PAGE_BYTES,
+                      (511 - size_classes[20 + k].pages) * PAGE_BYTES);
+    }
+    for (size_t k = 0; k < 3; k++)
+        expect_release(twin, k * CHUNK_BYTES + 4096, 0);
+    expect_served(twin, 8, 4096, 8);
+    expect_gain(twin, 0);
+    expect_totals(twin, 4, 3 * 511 * PAGE_BYTES - (5 + 3 + 2) * PAGE_BYTES + 8, 5 + 3 + 2 - 1);
 }
 
 /* "the pages of a freed run count as free for any request" */
@@ -274,7 +371,11 @@ static const struct {
     {"first-chunk-not-best-gap-of-all", 3, sample_first_chunk},
     {"free-slot-in-last-chunk-before-new-run", 3, sample_slot_before_gap},
     {"lowest-free-slot-not-last-freed", 1, sample_lowest_slot},
-    {"empty-run-stays-with-its-class", 1, sample_empty_run},
+    {"empty-run-stays-until-swept", 1, sample_empty_run},
+    {"morning-of-drops-then-a-big-table", 1, sample_morning},
+    {"morning-of-drops-but-one-row", 1, sample_morning_but_one},
+    {"sweep-tells-the-pages-gained", 1, sample_sweep},
+    {"sweep-in-all-chunks", 3, sample_all_are_swept},
     {"freed-pages-serve-any-request", 1, sample_freed_pages},
     {"slots-counted-from-first-of-five-pages", 1, sample_five_pages},
 };
@@ -515,6 +616,166 @@ static void test_no_pages(void)
     group_end();
 }
 
+/* ---- Sweeps ---------------------------------------------------------------------- */
+
+/* What the library lists, in a room that the caller frees. */
+static uint64_t *listed(const struct twin *twin)
+{
+    size_t words = 2 * twin->model.live.count;
+    uint64_t *room = lent_room_new(words);
+
+    expect(library_census(&twin->lent, room, words).refusal == 0, "census");
+    return room;
+}
+
+/* "The census is the same before and after a sweep." Another sweep changes nothing. */
+static void sweep_once_and_again(struct twin *twin)
+{
+    size_t words = 2 * twin->model.live.count;
+    uint64_t *before = listed(twin), *after;
+    uint64_t free_pages = pool_totals(&twin->model).free_pages;
+    uint64_t gained = twin_sweep(twin);
+
+    after = listed(twin);
+    expect(memcmp(before, after, words * sizeof *before) == 0, "another census after a sweep");
+    expect_totals(twin, twin->model.live.count, twin->model.live.bytes, free_pages + gained);
+    expect_gain(twin, 0);
+    lent_room_free(before, words);
+    lent_room_free(after, words);
+}
+
+/* Three runs of a class, and of the middle one only this slot is taken: it alone stays. */
+static void keep_slot(struct twin *twin, unsigned b, unsigned slot)
+{
+    unsigned pages = size_classes[b].pages;
+    struct pool_run *middle;
+
+    pool_fresh(&twin->model, 1);
+    pool_put_class(&twin->model, 0, 1, b);
+    middle = pool_put_class(&twin->model, 0, 1 + pages, b);
+    pool_put_class(&twin->model, 0, 1 + 2 * pages, b);
+    pool_take_slot(&twin->model, 0, middle, slot);
+    twin_settle(twin);
+    expect_gain(twin, 2 * pages);
+    expect_size(twin, run_place(0, middle) + slot * size_classes[b].size, 0,
+                size_classes[b].size);
+}
+
+static void test_kept_slots(void)
+{
+    struct twin *twin = twin_new(1);
+
+    group_begin("sweep", "a-run-with-any-one-slot-stays");
+    for (unsigned b = 0; b < CLASSES; b++)
+        for (unsigned slot = 0; slot < size_classes[b].slots; slot++)
+            keep_slot(twin, b, slot);
+    group_end();
+    twin_free(twin);
+}
+
+/* An empty run with these pages before and behind it taken: all of it goes, and no more. */
+static void sweep_at(struct twin *twin, size_t chunk, unsigned first, unsigned b)
+{
+    unsigned pages = size_classes[b].pages, end = first + pages;
+
+    pool_fresh(&twin->model, twin->model.c);
+    if (first > 1)
+        pool_put_large(&twin->model, chunk, 1, first - 1);
+    pool_put_class(&twin->model, chunk, first, b);
+    if (end + pages <= PAGES)
+        pool_take_slot(&twin->model, chunk, pool_put_class(&twin->model, chunk, end, b), 0);
+    twin_settle(twin);
+    expect_gain(twin, pages);
+}
+
+static void test_sweep_at_every_page(void)
+{
+    struct twin *twin = twin_new(2);
+
+    group_begin("sweep", "runs-at-every-page");
+    for (unsigned b = 0; b < CLASSES; b++)
+        for (unsigned first = 1; first + size_classes[b].pages <= PAGES; first++)
+            sweep_at(twin, first % 2, first, b);
+    group_end();
+    twin_free(twin);
+}
+
+/* Every page of the pool is in an empty run of the class, but for those that no run fits into. */
+static void sweep_whole_pool(struct twin *twin, unsigned b)
+{
+    struct recipe recipe = recipe_of_class(b, FILL_EMPTY);
+    uint64_t c = twin->model.c, pages = 511 / size_classes[b].pages * size_classes[b].pages;
+
+    twin_generate(twin, &recipe);
+    expect_gain(twin, c * pages);
+    expect_totals(twin, 0, 0, 511 * c);
+    twin_generate(twin, &recipe);
+    expect_served(twin, LARGEST, 4096, LARGEST);
+    expect_totals(twin, 1, LARGEST, 511 * (c - 1));
+}
+
+static void test_sweep_each_class(void)
+{
+    group_begin("sweep", "pools-of-one-empty-class");
+    for (size_t c = 1; c <= MAX_CHUNKS; c++) {
+        struct twin *twin = twin_new(c);
+        for (unsigned b = 0; b < CLASSES; b++)
+            sweep_whole_pool(twin, b);
+        twin_free(twin);
+    }
+    group_end();
+}
+
+/* Runs only, or also free pages in between. It is mostly the sweep that makes the gaps. */
+static void generate_some_empty(struct twin *twin)
+{
+    struct recipe recipe = *recipe_named("classes-any-fill");
+
+    recipe.large_share = rng_below(&rng, 2);
+    recipe.large_max = 1 + rng_below(&rng, 60);
+    recipe.free_share = rng_below(&rng, 4) == 0;
+    twin_generate(twin, &recipe);
+}
+
+static void reserve_by_sweep(struct twin *twin)
+{
+    unsigned pages = 1 + rng_below(&rng, rng_below(&rng, 2) ? 12 : 511);
+    uint64_t size = rng_below(&rng, 3) ? pages * PAGE_BYTES : draw_small_size();
+
+    if (twin_reserve(twin, size).gained > 0)
+        expect_gain(twin, 0); /* all are gone, not only those that were in the way */
+}
+
+static void test_sweep_and_search(void)
+{
+    group_begin("sweep", "gaps-among-empty-runs");
+    memset(&answers, 0, sizeof answers);
+    for (unsigned c = 1; c <= MAX_CHUNKS; c++) {
+        struct twin *twin = twin_new(c);
+        for (unsigned n = 0; n < 20 + 1200 / c; n++) {
+            generate_some_empty(twin);
+            reserve_by_sweep(twin);
+        }
+        twin_free(twin);
+    }
+    expect_least(answers.reserve_swept, 800, "served by a sweep");
+    expect_least(answers.reserve_spared, 400, "that gained more than was taken");
+    expect_least(answers.reserve_in_vain, 400, "refused in spite of empty runs");
+    expect_least(answers.reserve_unswept, 400, "served beside empty runs");
+    group_end();
+}
+
+static void test_sweeps(void)
+{
+    group_begin("sweep", "each-recipe-once-and-again");
+    on_each_recipe(1, sweep_once_and_again);
+    group_end();
+    test_kept_slots();
+    test_sweep_at_every_page();
+    test_sweep_each_class();
+    test_sweep_and_search();
+}
+
 /* ---- Long random series ---------------------------------------------------------- */
 
 /* What the calls of a series are like. */
@@ -523,6 +784,8 @@ struct mix {
     void (*start)(struct twin *twin, unsigned b); /* b: a class for the series */
     uint64_t (*size)(unsigned b);
     unsigned reserves, releases; /* of 100 calls; the others ask for block sizes */
+    unsigned calls_a_sweep;      /* one sweep beside so many calls */
+    unsigned rounds;             /* series for each count of chunks; the more, the shorter */
     bool tides;                  /* fill up, then drain, in turn */
 };
 
@@ -575,6 +838,33 @@ static void start_in_pieces(struct twin *twin, unsigned b)
     twin_settle(twin);
 }
 
+/* Of some runs of slots, up to so many, one slot is taken. */
+static void take_some_slots(struct pool *model, size_t chunk, unsigned most)
+{
+    const struct pool_chunk *runs = &model->chunks[chunk];
+
+    for (unsigned i = rng_below(&rng, most + 1); i > 0; i--) {
+        struct pool_run *run = runs->runs[rng_below(&rng, runs->count)];
+        if (run->kind == RUN_CLASS && run->taken_count == 0)
+            pool_take_slot(model, chunk, run,
+                           rng_below(&rng, size_classes[run->class_number].slots));
+    }
+}
+
+/* Nothing but runs, and most of these are empty: a morning of drops is over. */
+static void start_after_drops(struct twin *twin, unsigned b)
+{
+    struct recipe recipe = *recipe_named("classes-empty");
+
+    (void)b;
+    recipe.large_share = rng_below(&rng, 2);
+    recipe.large_max = 1 + rng_below(&rng, 200);
+    twin_generate(twin, &recipe);
+    for (size_t k = 0; k < twin->model.c; k++)
+        take_some_slots(&twin->model, k, 8);
+    twin_settle(twin);
+}
+
 /* Few calls fill a pool. */
 static uint64_t filling_size(unsigned b)
 {
@@ -590,13 +880,28 @@ static uint64_t piece_size(unsigned b)
     return rng_below(&rng, 8) ? draw_large_size(12) : draw_any_size(b);
 }
 
+/* Rows of all classes, and tables, for which the runs of dropped rows must go. */
+static uint64_t row_or_table(unsigned b)
+{
+    (void)b;
+    switch (rng_below(&rng, 6)) {
+    case 0:
+        return draw_large_size(511);
+    case 1:
+        return draw_large_size(30);
+    default:
+        return draw_small_size();
+    }
+}
+
 static const struct mix mixes[] = {
-    {"small-sizes", start_anyhow, draw_mostly_small, 55, 35, false},
-    {"all-sizes", start_anyhow, draw_any_size, 50, 40, false},
-    {"large-only", start_anyhow, draw_large_only, 48, 42, false},
-    {"fill-up-then-drain", start_at_a_tide, filling_size, 80, 10, true},
-    {"one-class-only", start_with_class, draw_mostly_class, 48, 42, false},
-    {"fragmented", start_in_pieces, piece_size, 45, 45, false},
+    {"small-sizes", start_anyhow, draw_mostly_small, 55, 35, 60, 4, false},
+    {"all-sizes", start_anyhow, draw_any_size, 50, 40, 60, 4, false},
+    {"large-only", start_anyhow, draw_large_only, 48, 42, 60, 4, false},
+    {"fill-up-then-drain", start_at_a_tide, filling_size, 80, 10, 200, 4, true},
+    {"one-class-only", start_with_class, draw_mostly_class, 48, 42, 60, 4, false},
+    {"fragmented", start_in_pieces, piece_size, 45, 45, 60, 4, false},
+    {"after-drops", start_after_drops, row_or_table, 50, 40, 100, 120, false},
 };
 
 /* A live place, one that was used lately, or one that may be anywhere. */
@@ -656,6 +961,8 @@ static void run_series(struct twin *twin, const struct mix *mix, unsigned b, uns
         } else {
             twin_block_size(twin, place);
         }
+        if (rng_below(&rng, mix->calls_a_sweep) == 0)
+            twin_sweep(twin);
         read_back(twin, i);
         recent[i % 16] = place;
         if (mix->tides)
@@ -663,19 +970,18 @@ static void run_series(struct twin *twin, const struct mix *mix, unsigned b, uns
     }
 }
 
-/* The more chunks, the longer a call takes and the fewer are made. */
+/* All series of c chunks: the more chunks, the longer a call takes and the fewer are made. */
 static unsigned calls_of(unsigned c)
 {
-    return 900 + 5600 / c;
+    return 3600 + 22400 / c;
 }
 
-/* For each count of chunks four series. */
 static void run_mix(const struct mix *mix)
 {
     for (unsigned c = 1; c <= MAX_CHUNKS; c++) {
         struct twin *twin = twin_new(c);
-        for (unsigned round = 0; round < 4; round++)
-            run_series(twin, mix, (4 * c + round) % CLASSES, calls_of(c));
+        for (unsigned round = 0; round < mix->rounds; round++)
+            run_series(twin, mix, (4 * c + round) % CLASSES, calls_of(c) / mix->rounds);
         twin_free(twin);
     }
 }
@@ -702,6 +1008,17 @@ static void expect_enough_changes(void)
     expect_least(answers.release[0], 100000, "released");
     expect_least(answers.release[5], 10000, "at no block");
     expect_least(answers.release[6], 2000, "at free slots");
+    expect_least(answers.sweep[0], 5000, "sweeps");
+    expect_least(answers.sweep[0] - answers.sweep_none, 1000, "that gained pages");
+}
+
+/* Sweeps decide: what is served by them, what is not, and what needs none. */
+static void expect_enough_sweeps(void)
+{
+    expect_least(answers.reserve_swept, 1000, "served by a sweep");
+    expect_least(answers.reserve_spared, 500, "that gained more than was taken");
+    expect_least(answers.reserve_in_vain, 1000, "refused in spite of empty runs");
+    expect_least(answers.reserve_unswept, 10000, "served beside empty runs");
 }
 
 static void expect_enough_reads(void)
@@ -726,6 +1043,7 @@ static void test_random_series(void)
     group.trials = calls;
     expect_least(calls, 1000000, "calls");
     expect_enough_changes();
+    expect_enough_sweeps();
     expect_enough_reads();
     group_end();
 }
@@ -858,6 +1176,17 @@ static bool only_refused(const struct lensember_reserved *answer, uint64_t numbe
 static const uint64_t tried_sizes[] = {24, 3072, 5000, 2093057, UINT64_MAX};
 static const uint64_t tried_places[] = {0, 4096, 4100, UINT64_C(1) << 25, UINT64_MAX};
 
+static void expect_sweep_refuses(uint64_t number, uint64_t c, const struct records *r,
+                                 struct lengths n)
+{
+    struct lensember_swept swept =
+        lensember_sweep(c, r->bits, n.bits, r->words, n.words, r->slots, n.slots);
+
+    expect(swept.refusal == number && swept.pages == 0,
+           "sweep, c %" PRIu64 ": %" PRIu64 ", %" PRIu64 " pages", c, swept.refusal, swept.pages);
+    group.trials++;
+}
+
 static void expect_calls_refuse(uint64_t number, uint64_t c, const struct records *r,
                                 struct lengths n)
 {
@@ -879,6 +1208,7 @@ static void expect_calls_refuse(uint64_t number, uint64_t c, const struct record
                tried_places[i], c, sized.refusal, sized.size);
     }
     group.trials += COUNT(tried_sizes) + 2 * COUNT(tried_places);
+    expect_sweep_refuses(number, c, r, n);
     expect_readers_refuse(number, c, r, n);
 }
 
@@ -922,6 +1252,7 @@ static void test_all(void)
     test_gap_at_chunk_end();
     test_no_slots();
     test_no_pages();
+    test_sweeps();
     test_random_series();
     test_every_place();
     test_live_sizes();

@@ -24,6 +24,11 @@ uint64_t library_release(const struct records *r, uint64_t place)
     return lensember_release(r->c, LENT(r), place);
 }
 
+struct lensember_swept library_sweep(const struct records *r)
+{
+    return lensember_sweep(r->c, LENT(r));
+}
+
 struct lensember_sized library_block_size(const struct records *r, uint64_t place)
 {
     return lensember_block_size(r->c, LENT(r), place);

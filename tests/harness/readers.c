@@ -358,7 +358,7 @@ static void fill_and_drain(void)
     twin_free(twin);
 }
 
-/* Runs of slots keep their pages, page runs give theirs back. */
+/* Runs of slots keep their pages until a sweep, page runs give theirs back. */
 static void totals_of_released(void)
 {
     struct twin *twin = twin_new(1);
@@ -373,6 +373,8 @@ static void totals_of_released(void)
     for (unsigned s = 0; s < 170; s++)
         twin_release(twin, 3 * PAGE_BYTES + 24 * s);
     expect_totals(twin, 1, 24, 509);
+    twin_sweep(twin);
+    expect_totals(twin, 1, 24, 510);
     twin_free(twin);
 }
 
@@ -388,7 +390,7 @@ static void test_totals(void)
     group_begin("totals", "from-fresh-to-full-and-back");
     fill_and_drain();
     group_end();
-    group_begin("totals", "slots-keep-their-pages");
+    group_begin("totals", "slots-keep-their-pages-until-swept");
     totals_of_released();
     group_end();
 }

@@ -216,6 +216,8 @@ static void count_outcome(const struct log_outcome *outcome)
         outcomes.reserves[i] += outcome->reserves[i];
         outcomes.releases[i] += outcome->releases[i];
     }
+    outcomes.swept += outcome->swept;
+    outcomes.in_vain += outcome->in_vain;
 }
 
 /* "before an accepted start nothing lent changes" */

@@ -53,6 +53,7 @@ struct outcomes {
     unsigned long fields;
     unsigned long logs[10]; /* by refusal */
     unsigned long reserves[CALL_ANSWERS], releases[CALL_ANSWERS];
+    unsigned long swept, in_vain; /* as in struct log_outcome */
 };
 extern struct outcomes outcomes;
 

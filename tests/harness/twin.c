@@ -59,7 +59,7 @@ void twin_free(struct twin *twin)
 
 void twin_settle(struct twin *twin)
 {
-    twin->model.touched.pages = 0;
+    pool_untouch(&twin->model);
     pool_write(&twin->model, &twin->right);
     lent_copy(&twin->lent, &twin->right);
 }
@@ -138,6 +138,23 @@ static bool same_reserved(const struct lensember_reserved *a, const struct pool_
         && a->first_page == b->first_page && a->slot == b->slot && a->pages == b->pages;
 }
 
+/* Of the run that a sweep made room for. */
+static uint64_t pages_taken(const struct pool_reserved *right)
+{
+    return right->kind == BLOCK_SLOT ? size_classes[right->class_number].pages : right->pages;
+}
+
+/* What sweeps have to do with the answer that the model gave last. */
+static void count_sweep(const struct pool *model, const struct pool_reserved *right)
+{
+    bool has_empty_runs = pool_empty_pages(model) > 0;
+
+    answers.reserve_swept += right->gained > 0;
+    answers.reserve_spared += right->gained > pages_taken(right);
+    answers.reserve_in_vain += right->refusal == 4 && has_empty_runs;
+    answers.reserve_unswept += right->refusal == 0 && has_empty_runs;
+}
+
 struct pool_reserved twin_reserve(struct twin *twin, uint64_t size)
 {
     struct lensember_reserved answer = library_reserve(&twin->lent, size);
@@ -151,6 +168,7 @@ struct pool_reserved twin_reserve(struct twin *twin, uint64_t size)
            answer.kind, answer.first_page, right.refusal, right.place, right.size,
            (int)right.kind, right.first_page);
     count_answer(answers.reserve, answer.refusal);
+    count_sweep(&twin->model, &right);
     compare_records(twin, "reserve", size);
     return right;
 }
@@ -168,6 +186,20 @@ uint64_t twin_release(struct twin *twin, uint64_t place)
     return right;
 }
 
+uint64_t twin_sweep(struct twin *twin)
+{
+    struct lensember_swept answer = library_sweep(&twin->lent);
+    uint64_t right = pool_sweep(&twin->model);
+
+    expect(answer.refusal == 0 && answer.pages == right,
+           "c %zu call %lu, sweep: answer %" PRIu64 ", %" PRIu64 " pages, the model says %" PRIu64,
+           twin->model.c, twin->calls, answer.refusal, answer.pages, right);
+    count_answer(answers.sweep, answer.refusal);
+    answers.sweep_none += right == 0;
+    compare_records(twin, "sweep", right);
+    return right;
+}
+
 struct pool_sized twin_block_size(struct twin *twin, uint64_t place)
 {
     struct lensember_sized answer = library_block_size(&twin->lent, place);
@@ -179,7 +211,7 @@ struct pool_sized twin_block_size(struct twin *twin, uint64_t place)
            twin->model.c, twin->calls, place, answer.refusal, answer.size,
            right.refusal, right.size);
     count_answer(answers.block_size, answer.refusal);
-    twin->model.touched.pages = 0;
+    pool_untouch(&twin->model);
     compare_records(twin, "block size of", place);
     return right;
 }
@@ -196,7 +228,7 @@ struct pool_found twin_next(struct twin *twin, uint64_t place)
            right.place, right.size);
     count_answer(answers.next, answer.refusal);
     answers.next_none += answer.refusal == 0 && answer.place == 0;
-    twin->model.touched.pages = 0;
+    pool_untouch(&twin->model);
     compare_records(twin, "next from", place);
     return right;
 }
@@ -233,7 +265,7 @@ struct pool_counted twin_census(struct twin *twin, size_t nroom)
            "c %zu call %lu, census in %zu words: the room is not what the model makes of it",
            twin->model.c, twin->calls, nroom);
     count_answer(answers.census, answer.refusal);
-    twin->model.touched.pages = 0;
+    pool_untouch(&twin->model);
     compare_records(twin, "census in words", nroom);
     return right;
 }
@@ -261,7 +293,7 @@ struct pool_summed twin_totals(struct twin *twin)
            answer.free_pages, right.blocks, right.bytes, right.free_pages);
     compare_pages(twin, answer.free_pages);
     count_answer(answers.totals, answer.refusal);
-    twin->model.touched.pages = 0;
+    pool_untouch(&twin->model);
     compare_records(twin, "totals", twin->model.c);
     return right;
 }

@@ -38,6 +38,7 @@ void on_each_recipe(unsigned step, twin_test *test);
 void twin_fresh(struct twin *twin);
 struct pool_reserved twin_reserve(struct twin *twin, uint64_t size);
 uint64_t twin_release(struct twin *twin, uint64_t place);
+uint64_t twin_sweep(struct twin *twin); /* the pages gained */
 struct pool_sized twin_block_size(struct twin *twin, uint64_t place);
 struct pool_found twin_next(struct twin *twin, uint64_t place);
 struct pool_counted twin_census(struct twin *twin, size_t nroom);
@@ -47,9 +48,14 @@ struct pool_summed twin_totals(struct twin *twin);
 enum { ANSWERS = 9 };
 
 struct answers {
-    unsigned long reserve[ANSWERS], release[ANSWERS], block_size[ANSWERS];
+    unsigned long reserve[ANSWERS], release[ANSWERS], sweep[ANSWERS], block_size[ANSWERS];
     unsigned long next[ANSWERS], census[ANSWERS], totals[ANSWERS];
-    unsigned long next_none; /* no block at or above the place */
+    unsigned long reserve_swept;   /* served, but only after a sweep */
+    unsigned long reserve_spared;  /* of these: the sweep gained more pages than were taken */
+    unsigned long reserve_in_vain; /* refused 4, and there are empty runs */
+    unsigned long reserve_unswept; /* served, and there are empty runs */
+    unsigned long sweep_none;      /* no page gained */
+    unsigned long next_none;       /* no block at or above the place */
 };
 extern struct answers answers;
 

@@ -7,6 +7,9 @@
 #define LOG(fields) (const uint8_t *)(fields), sizeof(fields) - 1
 
 #define RESERVE_24 RESERVE "\x00\x00\x00\x18"
+#define RESERVE_320 RESERVE "\x00\x00\x01\x40"
+#define RESERVE_3072 RESERVE "\x00\x00\x0C\x00"
+#define RESERVE_511_PAGES RESERVE "\x00\x1F\xF0\x00"
 #define SERVED_24 "pool 1\nreserve 24 at 4096 size 24\n"
 
 const struct known_log known_logs[] = {
@@ -97,6 +100,47 @@ const struct known_log known_logs[] = {
      0, 0,
      "pool 1\nreserve 2093056 at 4096 size 2093056\nreserve 24 refused 4\n"
      "reserve 2093057 refused 3\nlive 1 free pages 0\n"},
+
+    /* sweeps: one page, five and three, then big tables */
+    {"morning-of-drops-then-a-big-table",
+     LOG(START RESERVE_24 RESERVE_320 RESERVE_3072 RELEASE "\x00\x00\x20\x00"
+         RELEASE "\x00\x00\x10\x00" RELEASE "\x00\x00\x70\x00" RESERVE_511_PAGES END),
+     0, 0,
+     SERVED_24
+     "reserve 320 at 8192 size 320\n"
+     "reserve 3072 at 28672 size 3072\n"
+     "release 8192 ok\n"
+     "release 4096 ok\n"
+     "release 28672 ok\n"
+     "reserve 2093056 at 4096 size 2093056\n"
+     "live 1 free pages 0\n"},
+    {"morning-of-drops-but-one-row",
+     LOG(START RESERVE_24 RESERVE_320 RESERVE_3072 RELEASE "\x00\x00\x20\x00"
+         RELEASE "\x00\x00\x70\x00" RESERVE_511_PAGES RESERVE_320 END),
+     0, 0,
+     SERVED_24
+     "reserve 320 at 8192 size 320\n"
+     "reserve 3072 at 28672 size 3072\n"
+     "release 8192 ok\n"
+     "release 28672 ok\n"
+     "reserve 2093056 refused 4\n"
+     "reserve 320 at 8192 size 320\n"
+     "live 2 free pages 502\n"},
+    /* what a replay remembers of the run at 4096 goes with it */
+    {"no-slot-of-a-swept-run",
+     LOG(START RESERVE_24 RESERVE "\x00\x1F\xE0\x00" RELEASE "\x00\x00\x10\x00"
+         RESERVE "\x00\x00\x10\x00" RESERVE_24 RELEASE "\x00\x00\x10\x00" RESERVE_320
+         RESERVE_24 END),
+     0, 0,
+     SERVED_24
+     "reserve 2088960 at 8192 size 2088960\n"
+     "release 4096 ok\n"
+     "reserve 4096 at 4096 size 4096\n"
+     "reserve 24 refused 4\n"
+     "release 4096 ok\n"
+     "reserve 320 refused 4\n"
+     "reserve 24 at 4096 size 24\n"
+     "live 2 free pages 0\n"},
 
     /* the end */
     {"end-length-1", LOG(START "\x04\x00\x01\x00"), 9, 4, "pool 1\nlog refused 9 at 4\n"},

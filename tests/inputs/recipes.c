@@ -25,6 +25,7 @@ const struct recipe recipes[] = {
     {"classes-one-page",  0,   0,    1,     1, 1,    0, 15,  1,      false, FILL_RANDOM},
     {"class-0",           0,   0,    1,     1, 1,    0, 0,   1,      false, FILL_RANDOM},
     {"stretches",         1,   1,    1,     1, 20,   0, 29,  40,     false, FILL_RANDOM},
+    {"classes-any-fill",  0,   0,    1,     1, 1,    0, 29,  1,      false, FILL_ANY},
 };
 
 const size_t recipe_count = COUNT(recipes);

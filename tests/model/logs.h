@@ -31,6 +31,8 @@ struct log_outcome {
     bool started;         /* else nothing lent has changed */
     unsigned long fields; /* that were worked */
     unsigned long reserves[CALL_ANSWERS], releases[CALL_ANSWERS];
+    unsigned long swept;   /* reserves that were served, but only after a sweep */
+    unsigned long in_vain; /* reserves that were refused 4, and there were empty runs */
 };
 
 /*

@@ -48,6 +48,12 @@ static void remove_run(struct pool_chunk *chunk, const struct pool_run *run)
         chunk->runs[at] = chunk->runs[at + 1];
 }
 
+void pool_untouch(struct pool *pool)
+{
+    pool->touched.pages = 0;
+    pool->touched.anywhere = false;
+}
+
 void pool_end(struct pool *pool)
 {
     for (size_t k = 0; k < MAX_CHUNKS; k++) {
@@ -56,7 +62,7 @@ void pool_end(struct pool *pool)
         pool->chunks[k].count = 0;
     }
     book_clear(&pool->live);
-    pool->touched.pages = 0;
+    pool_untouch(pool);
 }
 
 void pool_fresh(struct pool *pool, size_t c)
@@ -117,6 +123,58 @@ void pool_read(struct pool *pool, const struct records *sound)
     }
 }
 
+/* ---- Sweep ----------------------------------------------------------------- */
+
+typedef bool run_test(const struct pool_run *run);
+
+/* Every run stands in the way of a gap; after a sweep, those that hold a block. */
+static bool is_any(const struct pool_run *run)
+{
+    (void)run;
+    return true;
+}
+
+static bool is_in_use(const struct pool_run *run)
+{
+    return run->kind == RUN_LARGE || run->taken_count > 0;
+}
+
+/* Answers how many pages they had. */
+static uint64_t strike_empty_runs(struct pool *pool)
+{
+    uint64_t pages = 0;
+
+    for (size_t k = 0; k < pool->c; k++) {
+        struct pool_chunk *chunk = &pool->chunks[k];
+        for (unsigned i = chunk->count; i > 0; i--) {
+            const struct pool_run *run = chunk->runs[i - 1];
+            if (is_in_use(run))
+                continue;
+            pages += run->pages;
+            remove_run(chunk, run);
+        }
+    }
+    pool->touched.anywhere = pages > 0;
+    return pages;
+}
+
+uint64_t pool_sweep(struct pool *pool)
+{
+    pool_untouch(pool);
+    return strike_empty_runs(pool);
+}
+
+uint64_t pool_empty_pages(const struct pool *pool)
+{
+    uint64_t pages = 0;
+
+    for (size_t k = 0; k < pool->c; k++)
+        for (unsigned i = 0; i < pool->chunks[k].count; i++)
+            if (!is_in_use(pool->chunks[k].runs[i]))
+                pages += pool->chunks[k].runs[i]->pages;
+    return pages;
+}
+
 /* ---- Reserve --------------------------------------------------------------- */
 
 /* "the smallest class that holds it" */
@@ -129,20 +187,24 @@ unsigned class_of_size(uint64_t size)
     return b;
 }
 
+/* What was swept before, in the same call, stays touched. */
 static void touch(struct pool *pool, size_t chunk, const struct pool_run *run)
 {
-    struct touched touched = {chunk, run->first, run->pages};
-    pool->touched = touched;
+    pool->touched.chunk = chunk;
+    pool->touched.first = run->first;
+    pool->touched.pages = run->pages;
 }
 
 /* "the shortest such gap, the lower one on a tie": its first page, or 0. */
-static unsigned find_gap(const struct pool_chunk *chunk, unsigned pages)
+static unsigned find_gap(const struct pool_chunk *chunk, unsigned pages, run_test *stands)
 {
     unsigned first = 1; /* behind the run before */
     unsigned shortest = PAGES, found = 0;
 
     for (unsigned i = 0; i <= chunk->count; i++) {
         unsigned end = i < chunk->count ? chunk->runs[i]->first : PAGES;
+        if (i < chunk->count && !stands(chunk->runs[i]))
+            continue; /* its pages belong to the gap around them */
         if (end - first >= pages && end - first < shortest) {
             shortest = end - first;
             found = first;
@@ -153,16 +215,39 @@ static unsigned find_gap(const struct pool_chunk *chunk, unsigned pages)
     return found;
 }
 
+/* Where pages were found, and how many a sweep gained to have them. */
+struct room {
+    bool found;
+    size_t chunk;
+    unsigned first;
+    uint64_t gained;
+};
+
 /* "the chunk with the lowest number that has a gap of at least n" */
-static bool find_pages(const struct pool *pool, unsigned pages, size_t *chunk, unsigned *first)
+static struct room find_pages(const struct pool *pool, unsigned pages, run_test *stands)
 {
-    for (size_t k = 0; k < pool->c; k++) {
-        *chunk = k;
-        *first = find_gap(&pool->chunks[k], pages);
-        if (*first != 0)
-            return true;
+    struct room room = {false, 0, 0, 0};
+
+    for (; room.chunk < pool->c; room.chunk++) {
+        room.first = find_gap(&pool->chunks[room.chunk], pages, stands);
+        room.found = room.first != 0;
+        if (room.found)
+            break;
     }
-    return false;
+    return room;
+}
+
+/* Once more without the empty runs; all of them are swept where that helps. */
+static struct room make_room(struct pool *pool, unsigned pages)
+{
+    struct room room = find_pages(pool, pages, is_any);
+
+    if (room.found)
+        return room;
+    room = find_pages(pool, pages, is_in_use);
+    if (room.found)
+        room.gained = strike_empty_runs(pool);
+    return room;
 }
 
 /* The lowest run of a class that has a free slot, or null. */
@@ -183,7 +268,7 @@ static struct pool_run *find_open_run(const struct pool *pool, unsigned b, size_
 
 static struct pool_reserved refuse(uint64_t number)
 {
-    struct pool_reserved refused = {number, 0, 0, BLOCK_NOTHING, 0, 0, 0, 0};
+    struct pool_reserved refused = {number, 0, 0, BLOCK_NOTHING, 0, 0, 0, 0, 0};
     return refused;
 }
 
@@ -191,13 +276,16 @@ static struct pool_reserved reserve_slot(struct pool *pool, unsigned b)
 {
     struct pool_reserved answer = refuse(0);
     size_t chunk;
-    unsigned first, slot = 0;
+    unsigned slot = 0;
     struct pool_run *run = find_open_run(pool, b, &chunk);
 
     if (run == NULL) {
-        if (!find_pages(pool, size_classes[b].pages, &chunk, &first))
+        struct room room = make_room(pool, size_classes[b].pages);
+        if (!room.found)
             return refuse(4);
-        run = pool_put_class(pool, chunk, first, b);
+        chunk = room.chunk;
+        run = pool_put_class(pool, chunk, room.first, b);
+        answer.gained = room.gained;
     }
     while (run->taken[slot])
         slot++;
@@ -216,25 +304,25 @@ static struct pool_reserved reserve_slot(struct pool *pool, unsigned b)
 static struct pool_reserved reserve_pages(struct pool *pool, unsigned pages)
 {
     struct pool_reserved answer = refuse(0);
-    size_t chunk;
-    unsigned first;
+    struct room room = make_room(pool, pages);
     struct pool_run *run;
 
-    if (!find_pages(pool, pages, &chunk, &first))
+    if (!room.found)
         return refuse(4);
-    run = pool_put_large(pool, chunk, first, pages);
-    touch(pool, chunk, run);
+    run = pool_put_large(pool, room.chunk, room.first, pages);
+    touch(pool, room.chunk, run);
 
-    answer.place = run_place(chunk, run);
+    answer.place = run_place(room.chunk, run);
     answer.size = pages * PAGE_BYTES;
     answer.kind = BLOCK_RUN;
     answer.pages = pages;
+    answer.gained = room.gained;
     return answer;
 }
 
 struct pool_reserved pool_reserve(struct pool *pool, uint64_t size)
 {
-    pool->touched.pages = 0;
+    pool_untouch(pool);
     if (size > LARGEST)
         return refuse(3);
     if (size <= LARGEST_SMALL)
@@ -287,7 +375,7 @@ uint64_t pool_release(struct pool *pool, uint64_t place)
 {
     struct start start = find_start(pool, place);
 
-    pool->touched.pages = 0;
+    pool_untouch(pool);
     if (start.refusal != 0)
         return start.refusal;
     touch(pool, start.chunk, start.run);
@@ -295,7 +383,7 @@ uint64_t pool_release(struct pool *pool, uint64_t place)
     if (start.run->kind == RUN_LARGE) {
         remove_run(&pool->chunks[start.chunk], start.run);
     } else {
-        start.run->taken[start.slot] = false; /* the run stays, even when it is empty */
+        start.run->taken[start.slot] = false; /* the run stays, empty or not, until a sweep */
         start.run->taken_count--;
     }
     return 0;
@@ -410,7 +498,9 @@ void pool_write_touched(const struct pool *pool, struct records *out)
     const struct touched *touched = &pool->touched;
     const struct pool_chunk *chunk = &pool->chunks[touched->chunk];
 
-    if (touched->pages == 0)
+    if (touched->anywhere)
+        pool_write(pool, out);
+    if (touched->pages == 0 || touched->anywhere)
         return;
     wipe_pages(chunk_of(out, touched->chunk), touched->first, touched->pages);
     for (unsigned i = 0; i < chunk->count; i++)

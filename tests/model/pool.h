@@ -3,9 +3,10 @@
  *
  * It keeps no bits and no page words: a chunk is a list of runs by rising
  * page, a run of slots has the set of those that are taken, and a gap is what
- * lies between two runs. The records are written from the runs only to be
- * compared. Next, census and totals come from a book of the blocks that were
- * handed out, and from the gaps.
+ * lies between two runs. A sweep strikes runs off the list, and what it would
+ * give is seen by looking through them. The records are written from the runs
+ * only to be compared. Next, census and totals come from a book of the blocks
+ * that were handed out, and from the gaps.
  */
 #ifndef POOL_H
 #define POOL_H
@@ -31,10 +32,11 @@ struct pool_chunk {
     struct pool_run *runs[PAGES]; /* by rising page */
 };
 
-/* The pages of one chunk that a call changed the records of. */
+/* What a call changed the records of: the pages of one run, or any, where runs were swept. */
 struct touched {
     size_t chunk;
-    unsigned first, pages; /* no pages: nothing was changed */
+    unsigned first, pages; /* no pages: nothing was changed there */
+    bool anywhere;
 };
 
 struct pool {
@@ -68,6 +70,7 @@ struct pool_reserved {
     enum block_kind kind;
     uint64_t class_number, first_page, slot;
     uint64_t pages;
+    uint64_t gained; /* pages, by a sweep before it, of which the library tells nothing */
 };
 
 struct pool_sized {
@@ -90,15 +93,18 @@ struct pool_summed {
 
 struct pool_reserved pool_reserve(struct pool *pool, uint64_t size);
 uint64_t pool_release(struct pool *pool, uint64_t place);
+uint64_t pool_sweep(struct pool *pool); /* the pages gained */
 struct pool_sized pool_block_size(const struct pool *pool, uint64_t place);
 struct pool_found pool_next(const struct pool *pool, uint64_t place);
 struct pool_counted pool_census(const struct pool *pool, uint64_t *room, size_t nroom);
 struct pool_summed pool_totals(const struct pool *pool);
 
-uint64_t pool_run_pages(const struct pool *pool); /* in all runs together */
+uint64_t pool_run_pages(const struct pool *pool);   /* in all runs together */
+uint64_t pool_empty_pages(const struct pool *pool); /* in empty runs: what a sweep would gain */
 
 /* The records of the pool: all of them, or only what the last call changed. */
 void pool_write(const struct pool *pool, struct records *out);
 void pool_write_touched(const struct pool *pool, struct records *out);
+void pool_untouch(struct pool *pool); /* that call changed nothing */
 
 #endif

@@ -22,11 +22,12 @@ use Rattle.records.specs.Pool.{Pool, isEdge, kindAt}
 use Rattle.records.specs.Sound.{clean, step, follow, soundFrom, sound}
 use Rattle.records.specs.Calls.{fit, admitOf}
 use Rattle.records.proofs.Flags.{cond-eq, cond-ne, eq-cases}
+use Rattle.records.proofs.SlotLaws.{or-none, page-clean}
 use Rattle.records.proofs.KindLaws.{kind-large}
 use Rattle.records.proofs.WalkLaws.{sound-step}
 use Rattle.records.proofs.AdmitLaws.{admit-fit}
-use Rattle.admit.specs.Pages.{coming, slotsClear, Ready, outcome, Paged, Checked}
-use Rattle.admit.proofs.Clear.{or-none, page-clean}
+use Rattle.records.specs.Slots.{slotsClear}
+use Rattle.admit.specs.Pages.{coming, Ready, outcome, Paged, Checked}
 use Rattle.admit.proofs.Steps.{ready-none}
 
 -- ---- the answer so far: stray slot bits make it false

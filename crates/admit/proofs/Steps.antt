@@ -15,7 +15,8 @@ use Rattle.records.specs.Kinds.{kindOf, zeros, behind, innerWords, slotsOf}
 use Rattle.records.specs.Sound.{step}
 use Rattle.records.proofs.Flags.{cond-eq, cond-ne, eq-cases, lt-cases, le-cases}
 use Rattle.records.proofs.KindLaws.{kind-inner, kind-zero, kind-class, kind-large, kind-no-class, kind-no-large, kind-no-low}
-use Rattle.admit.specs.Pages.{nextWord, coming, slotsClear, Ready, outcome, Paged}
+use Rattle.records.specs.Slots.{slotsClear}
+use Rattle.admit.specs.Pages.{nextWord, coming, Ready, outcome, Paged}
 
 -- ---- the words to come
 

@@ -4,13 +4,14 @@ use mathlib.Core.Logic.{_≢_}
 use mathlib.Core.Bool.{Bool, true, false, cond}
 use mathlib.Core.List.{List, [], _∷_}
 use mathlib.Core.Option.{Option, none, some}
-use Prim.Native.Nat.{ℕ, zero, suc, _+_, _-_, _*_, _/_, _^_, _<_, _≤_}
+use Prim.Native.Nat.{ℕ, zero, suc, _+_, _*_, _<_, _≤_}
 use lib.Dec.{eqb}
 use lib.ListN.{length, getD}
 use Rattle.admit.specs.Masks.{maskTable}
 use Rattle.records.specs.Kinds.{kindOf, behind, slotsOf}
 use Rattle.records.specs.Pool.{Pool}
-use Rattle.records.specs.Sound.{all, step, soundFrom}
+use Rattle.records.specs.Sound.{step, soundFrom}
+use Rattle.records.specs.Slots.{slotsClear}
 
 -- the word of the page behind a page with the word d, inside one run
 unfoldable pub nextWord : ℕ → ℕ
@@ -20,13 +21,6 @@ nextWord d = cond (eqb d 0) 0 (d + 65536)
 unfoldable pub coming : ℕ → ℕ → List ℕ
 coming d zero = []
 coming d (suc n) = d ∷ coming (nextWord d) n
-
--- slot word j of page g has no bit that names none of n slots
-unfoldable pub wordClear : List ℕ → ℕ → ℕ → ℕ → Bool
-wordClear ss g n j = eqb (getD ss (8 * g + j) 0 / 2 ^ (n - 64 * j)) 0
-
-unfoldable pub slotsClear : List ℕ → ℕ → ℕ → Bool
-slotsClear ss g n = all 8 (wordClear ss g n)
 
 -- the pages of a run of each class behind its first
 pub record Behinds (l : List ℕ) : Type 0 where

@@ -11,9 +11,10 @@ ghost use Rattle.records.specs.declared.Kind.the-variants.{Class};
 ghost use Rattle.records.specs.Kinds.{slotsOf};
 ghost use Rattle.records.specs.Lent.{before, lent};
 ghost use Rattle.records.specs.Sound.{soundFrom};
+ghost use Rattle.records.specs.Slots.{slotsClear};
 ghost use Rattle.records.specs.Calls.{admitOf};
 ghost use Rattle.admit.specs.Masks.{maskTable};
-ghost use Rattle.admit.specs.Pages.{nextWord, slotsClear, Behinds, Ready, Paged, Checked, Inside};
+ghost use Rattle.admit.specs.Pages.{nextWord, Behinds, Ready, Paged, Checked, Inside};
 
 mod masks;
 
@@ -30,21 +31,6 @@ fn behind_table() -> [u32; 30]
         k += 1;
     }
     out
-}
-
-// 0 when page g has no slot bit.
-fn any_slot(slots: &[u64], g: usize) -> u64
-    requires { ⌜ (g < 8192) × (8 * g + 8 ≤ length (now slots)) ⌝ }
-    ensures { λ r. ⌜ eqb r 0 ≡ slotsClear (now (slots .entry)) g 0 ⌝ }
-{
-    let i = 8 * g;
-    let mut acc: u64 = 0;
-    let mut j = 0;
-    while j < 8 {
-        acc = acc | slots[i + j];
-        j += 1;
-    }
-    acc
 }
 
 // 0 when page g has no slot bit that names no slot of class b.
@@ -132,7 +118,7 @@ fn page(
         if w != due {
             return wrong();
         }
-        let x = any_slot(slots, g);
+        let x = records::any_slot(slots, g);
         let d = next_word(due);
         return PageStep {
             ok: true,
@@ -159,7 +145,7 @@ fn page(
         if w != 0 {
             return wrong();
         }
-        let x = any_slot(slots, g);
+        let x = records::any_slot(slots, g);
         return PageStep {
             ok: true,
             left: 0,
@@ -168,7 +154,7 @@ fn page(
         };
     }
     if in_range(w, 0x40000001, 0x40000200) {
-        let x = any_slot(slots, g);
+        let x = records::any_slot(slots, g);
         return PageStep {
             ok: true,
             left: w - 0x40000001,
@@ -263,7 +249,7 @@ fn free_64(bits: &[u64], words: &[u32], slots: &[u64], i: usize) -> bool
     let mut p = 0;
     while p < 64 {
         let g = 64 * i + p;
-        let x = any_slot(slots, g);
+        let x = records::any_slot(slots, g);
         let w = widths::wide32(words[g]);
         acc = acc | (x | w);
         p += 1;

@@ -1,18 +1,20 @@
 -- Laws of the count of a row's 1 bits.
 -- Assumes nothing.
 use mathlib.Core.Path.{_≡_, refl, sym, ap, ap₂, _∙_}
-use mathlib.Core.List.{List}
-use Prim.Native.Nat.{ℕ, zero, suc, _+_, _-_, _*_, _/_, _%_, _^_, _≤_}
-use native.Mathlib.Nat.{zero-add, suc-add, add-zero, add-assoc, div-one}
+use mathlib.Core.Logic.{inl, inr}
+use mathlib.Core.List.{List, [], _∷_}
+use Prim.Native.Nat.{ℕ, zero, suc, _+_, _-_, _*_, _/_, _%_, _^_, _≤_, _<_}
+use native.Mathlib.Nat.{zero-add, suc-add, add-zero, add-assoc, div-one, mod-eq-of-lt}
 use native.Mathlib.Omega.{arith}
 use lib.Bits.{bitAnd, and-high}
 use lib.Count.{ones, onesIn, ones-step, ones-cat}
-use lib.ListN.{getD}
+use lib.ListN.{length, getD}
 use lib.Pow.{pow-pos, shr-shr, high-ones}
-use Rattle.bitrow.specs.Row.{bit, bitAt, countBits}
+use Rattle.bitrow.specs.Row.{bit, bitAt, putBits, countBits}
 use Rattle.bitrow.specs.Mask.{maskOf}
 use Rattle.bitrow.proofs.Words.{low-mod, half-mod}
 use Rattle.bitrow.proofs.Rows.{bit-at-le, rest, bit-rest}
+use Rattle.bitrow.proofs.Marks.{put-bits-in, put-bits-out}
 
 pub count-none : (ws : List ℕ) (i n : ℕ) → n ≡ 0 → countBits ws i n ≡ 0
 unfolding countBits
@@ -35,7 +37,51 @@ unfolding countBits
 count-le zero ws i = omega arith
 count-le (suc n) ws i = omega (arith, bit-at-le ws i, count-le n ws (i + 1))
 
--- ---- the count is 0 where all n bits are 0, and only there
+-- places with the same bits
+pub count-same : (n : ℕ) (ws ws′ : List ℕ) (i : ℕ) → ((j : ℕ) → i ≤ j → j < i + n → bitAt ws j ≡ bitAt ws′ j) → countBits ws i n ≡ countBits ws′ i n
+unfolding countBits
+count-same zero ws ws′ i h = refl
+count-same (suc n) ws ws′ i h =
+    ap₂ (λ (x y : ℕ). x + y) (h i (omega arith) (omega arith)) (count-same n ws ws′ (i + 1) (λ j a b. h j (omega arith) (omega arith)))
+
+-- places of which one row has the bits of two others
+pub count-sum : (n : ℕ) (a b d : List ℕ) (i j k : ℕ) → ((t : ℕ) → t < n → bitAt a (i + t) ≡ bitAt b (j + t) + bitAt d (k + t))
+    → countBits a i n ≡ countBits b j n + countBits d k n
+unfolding countBits
+count-sum zero a b d i j k h = omega arith
+count-sum (suc n) a b d i j k h =
+    let first : bitAt a i ≡ bitAt b j + bitAt d k =
+    ap (bitAt a) (sym (add-zero i)) ∙ h 0 (omega arith) ∙ ap₂ (λ (x y : ℕ). bitAt b x + bitAt d y) (add-zero j) (add-zero k) in
+    let rest =
+    count-sum n a b d (i + 1) (j + 1) (k + 1)
+    (λ t l. ap (bitAt a) (next i t) ∙ h (suc t) (omega arith) ∙ sym (ap₂ (λ (x y : ℕ). bitAt b x + bitAt d y) (next j t) (next k t))) in
+    omega arith
+  where
+    next : (x t : ℕ) → x + 1 + t ≡ x + suc t
+    next x t = omega arith
+
+-- places that are alike
+count-alike : (v n : ℕ) (ws : List ℕ) (i : ℕ) → ((j : ℕ) → i ≤ j → j < i + n → bitAt ws j ≡ v) → countBits ws i n ≡ n * v
+unfolding countBits
+count-alike v zero ws i h = omega arith
+count-alike v (suc n) ws i h =
+    let a = h i (omega arith) (omega arith) in
+    let b = count-alike v n ws (i + 1) (λ j x y. h j (omega arith) (omega arith)) in
+    ap₂ (λ (x y : ℕ). x + y) a b ∙ omega arith
+
+-- m places that are cleared
+pub count-clear : (ws : List ℕ) (i m n : ℕ) → i + m ≤ n → n ≤ 64 * length ws → ((j : ℕ) → i ≤ j → j < i + m → bitAt ws j ≡ 1)
+    → countBits (putBits 0 ws i m) 0 n + m ≡ countBits ws 0 n
+count-clear ws i m n fits long ones =
+    let all : n ≡ i + (m + (n - (i + m))) = omega arith in
+    let parts : (l : List ℕ) → countBits l 0 n ≡ countBits l 0 i + (countBits l i m + countBits l (i + m) (n - (i + m))) =
+    λ l. ap (countBits l 0) all ∙ count-add i l 0 (m + (n - (i + m))) ∙ ap₂ (λ (x y : ℕ). countBits l 0 i + countBits l x y) (zero-add i) refl
+    ∙ ap (λ (x : ℕ). countBits l 0 i + x) (count-add m l i (n - (i + m))) in
+    let low = count-same i (putBits 0 ws i m) ws 0 (λ j a b. put-bits-out 0 m ws i (omega arith) (omega arith) j (inl (omega arith))) in
+    let high = count-same (n - (i + m)) (putBits 0 ws i m) ws (i + m) (λ j a b. put-bits-out 0 m ws i (omega arith) (omega arith) j (inr a)) in
+    let was = count-alike 1 m ws i ones in
+    let is = count-alike 0 m (putBits 0 ws i m) i (put-bits-in 0 m ws i (omega arith) (omega arith)) in
+    let a = parts ws in let b = parts (putBits 0 ws i m) in omega arith
 
 -- ---- places of one word, by a mask
 
@@ -66,6 +112,11 @@ count-word ws i m l =
     ap (λ (x : ℕ). countBits ws x m) (sym (add-zero i)) ∙ count-rest m ws i 0 (omega arith)
     ∙ ap (onesIn m) (div-one (rest ws i)) ∙ ones-mod m (rest ws i)
     ∙ sym (ones-mask (getD ws (i / 64) 0) (i % 64) m)
+
+-- the bits of one word
+pub count-ones : (m : ℕ) → m < 2 ^ 64 → countBits (m ∷ []) 0 64 ≡ ones m
+count-ones m l =
+    count-word (m ∷ []) 0 64 (omega arith) ∙ ones-mask m 0 64 ∙ ap ones (ap (λ (x : ℕ). x % 2 ^ 64) (div-one m) ∙ mod-eq-of-lt l)
 
 -- a turn of the loop: the m places from i on are counted, and those from i + m up to `to` are left
 pub count-turn : (ws : List ℕ) (i m to : ℕ) → i + m ≤ to → countBits ws i (to - i) ≡ countBits ws i m + countBits ws (i + m) (to - (i + m))

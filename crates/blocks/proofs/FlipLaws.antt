@@ -36,7 +36,7 @@ pub record Alike (c : ℕ) (p q : Pool) : Type 0 where
 pub alike-good : {c : ℕ} {p q : Pool} → Alike c p q → Good c p → Good c q
 alike-good a h = record { shape = sym (a .shape) ∙ h .shape; whole = sym (a .whole) ∙ h .whole }
 
-alike-back : {c : ℕ} {p q : Pool} → Alike c p q → Alike c q p
+pub alike-back : {c : ℕ} {p q : Pool} → Alike c p q → Alike c q p
 alike-back a = record { shape = sym (a .shape); whole = sym (a .whole) }
 
 pub gains : {c : ℕ} {p q : Pool} {b : Block} → Alike c p q → Ins b (live c p) (live c q) → Good c p → Gains c p q b
@@ -105,7 +105,7 @@ module _ {c : ℕ} {p q : Pool} {g n : ℕ} {head : Kind} {ws : List ℕ} (f : R
       (λ j a d. f .others j (inl d))
 
   -- what does not tell a free page from one inside a run does not tell the other pages of p and q apart
-  elsewhere : {A : Type 0} (F : Kind → A) → ((w : ℕ) → F Free ≡ F (Inner w)) → (i : ℕ) → i ≢ g → F (kindAt p i) ≡ F (kindAt q i)
+  pub elsewhere : {A : Type 0} (F : Kind → A) → ((w : ℕ) → F Free ≡ F (Inner w)) → (i : ℕ) → i ≢ g → F (kindAt p i) ≡ F (kindAt q i)
   elsewhere F h i d =
       by-cases (decLt i g) (λ a. ap F (f .others i (inl a)))
       (λ a. by-cases (decLe (g + suc n) i) (λ b. ap F (f .others i (inr b)))

@@ -24,11 +24,11 @@ use Rattle.records.proofs.WalkLaws.{walk, walk-next, Sound, sound-walks, walk-f
 use Rattle.records.proofs.RunLaws.{Mid, mid-off, walk-run}
 use Rattle.records.proofs.FreshLaws.{fresh-edge, fresh-free, fresh-sound, fresh-fit, fresh-served}
 use Rattle.records.proofs.AdmitLaws.{Shape, shaped-lengths, lengths-shaped, admit-fit, admitted}
-use Rattle.blocks.specs.Blocks.{Block, slotBlock, runBlock, IsSlot, IsLarge, when, blocksAt, live, pageBlocks, Ins, here}
-use Rattle.blocks.specs.Stores.{putRun, putSlot, Good, Gains, Loses}
+use Rattle.blocks.specs.Blocks.{Block, slotBlock, runBlock, IsSlot, IsLarge, IsEmpty, when, blocksAt, live, pageBlocks, Ins, here}
+use Rattle.blocks.specs.Stores.{putRun, putSlot, Good, Gains, Loses, Stays}
 use Rattle.blocks.proofs.FlatLaws.{flat-nil}
 use Rattle.blocks.proofs.StoreLaws.{free-off, run-fit, run-slots, run-out, run-in, slot-fit, slot-kinds, slot-same, slot-other}
-use Rattle.blocks.proofs.FlipLaws.{alike-good, gains, loses, RunFlip, run-alike, run-ins, run-same, SlotFlip, slot-alike, slot-ins}
+use Rattle.blocks.proofs.FlipLaws.{alike-good, alike-back, gains, loses, RunFlip, run-alike, run-ins, run-same, SlotFlip, slot-alike, slot-ins}
 
 -- a pool is good exactly where the check answers 0
 pub admit-good : (c : ℕ) (p : Pool) → admitOf c p ≡ 0 → Good c p
@@ -37,15 +37,20 @@ admit-good c p ok = let a = admitted c p ok in record { shape = sym (lengths-sha
 pub good-admit : (c : ℕ) (p : Pool) → Good c p → admitOf c p ≡ 0
 good-admit c p h = sym (admit-fit c p (h .shape) true (sym (h .whole)))
 
--- no bit names a slot of a page that owns none
-bare : (p : Pool) (g : ℕ) → clean p g ≡ true → slotsOf (kindAt p g) ≡ 0 → (s : ℕ) → s < 512 → slotAt p g s ≡ false
+-- no bit is set that names no slot
+bare : (p : Pool) (g : ℕ) → clean p g ≡ true → (s : ℕ) → slotsOf (kindAt p g) ≤ s → s < 512 → slotAt p g s ≡ false
 unfolding clean named
-bare p g e z s l =
-    go (slotAt p g s) (subst (λ (k : ℕ). cond (slotAt p g s) (ltb s k) true ≡ true) z (all-at 512 (named p g) e s l))
+bare p g e s z l = go (slotAt p g s) (all-at 512 (named p g) e s l)
   where
-    go : (t : Bool) → cond t (ltb s 0) true ≡ true → t ≡ false
-    go true x = absurd (omega (arith, ltb-true s 0 x))
+    go : (t : Bool) → cond t (ltb s (slotsOf (kindAt p g))) true ≡ true → t ≡ false
+    go true x = absurd (omega (arith, ltb-true s (slotsOf (kindAt p g)) x))
     go false x = refl
+
+-- a class run begins no block where no slot is taken
+class-none : (p : Pool) (g b : ℕ) → ((s : ℕ) → s < slots b → slotAt p g s ≡ false) → blocksAt g (Class b) (slotAt p g) ≡ []
+class-none p g b none =
+    flat-nil (λ s. when (slotAt p g s) (slotBlock g b s)) 0 (slots b)
+    (λ s x y. ap (λ (t : Bool). when t (slotBlock g b s)) (none s (omega arith)))
 
 -- a page that begins a run is none inside a run
 large-begins : (k : ℕ) → Begins (Large k)
@@ -61,8 +66,8 @@ module _ (c : ℕ) (p : Pool) (h : Good c p) where
   records : Sound p [] 0 (512 * c)
   records = sound-walks c p (h .whole)
 
-  idle-at : (g : ℕ) → g < 512 * c → slotsOf (kindAt p g) ≡ 0 → (s : ℕ) → s < 512 → slotAt p g s ≡ false
-  idle-at g l = bare p g (records .tidy g (omega arith) (omega arith))
+  pub idle-at : (g : ℕ) → g < 512 * c → slotsOf (kindAt p g) ≡ 0 → (s : ℕ) → s < 512 → slotAt p g s ≡ false
+  idle-at g l z s = bare p g (records .tidy g (omega arith) (omega arith)) s (omega arith)
 
   -- a run ends inside the pool
   pub run-whole : (g : ℕ) → g < 512 * c → g + spanOf (kindAt p g) ≤ 512 * c
@@ -196,6 +201,26 @@ module _ (c : ℕ) (p : Pool) (h : Good c p) where
       (kind-class (classWord b) (omega arith) (omega arith) ∙ ap Class (omega arith))
       (λ i x. kind-inner (getD (innerWords b 1 (behind b)) i 0) (omega (arith, getD-inner b 1 (behind b) i x))) fits were
 
+  -- ---- an empty run
+
+  pub empty-idle : (g b : ℕ) → IsEmpty c p g b → (s : ℕ) → s < 512 → slotAt p g s ≡ false
+  empty-idle g b x s l =
+      let z : slotsOf (kindAt p g) ≡ slots b = ap slotsOf (x .kind) in
+      let i = x .inside in
+      by-cases (decLt s (slots b)) (x .idle s) (λ m. bare p g (records .tidy g (omega arith) (omega arith)) s (omega arith) l)
+
+  pub free-class : (g b : ℕ) → IsEmpty c p g b
+      → RunFlip c (putRun 0 p g (zeros (suc (behind b)))) p g (behind b) (Class b) (innerWords b 1 (behind b))
+  free-class g b x =
+      give-run g (behind b) (Class b) (innerWords b 1 (behind b)) refl (class-begins b) (length-inner b 1 (behind b)) tt (x .inside) (x .kind)
+      (empty-idle g b x)
+
+  -- it began no block
+  pub give-class : (g b : ℕ) → IsEmpty c p g b → Stays c p (putRun 0 p g (zeros (suc (behind b))))
+  give-class g b x =
+      let f = free-class g b x in
+      record { good = alike-good (alike-back (run-alike f)) h; same = run-same f (class-none p g b (x .idle)) }
+
 -- its slots are free, so it begins no block; then slot 0 is taken
 pub put-class : (c : ℕ) (p : Pool) → Good c p → (g b : ℕ) → b < 30 → g + suc (behind b) ≤ 512 * c
     → ((i : ℕ) → g ≤ i → i < g + suc (behind b) → kindAt p i ≡ Free)
@@ -206,8 +231,7 @@ put-class c p h g b l fits were =
     let few = any-row b .slots-most in
     let none : (s : ℕ) → s < 512 → slotAt q g s ≡ false = λ s x. sym (f .same g s) ∙ f .idle s x in
     let same : live c p ≡ live c q =
-    run-same f (flat-nil (λ s. when (slotAt q g s) (slotBlock g b s)) 0 (slots b)
-    (λ s x y. ap (λ (t : Bool). when t (slotBlock g b s)) (none s (omega arith)))) in
+    run-same f (class-none q g b (λ s x. none s (omega arith))) in
     let r =
     put-slot c q (alike-good (run-alike f) h) g b 0
     (record { inside = omega arith; kind = f .first; slot = omega (arith, row-facts b l .slots-least); bit = none 0 (omega arith) }) in

@@ -40,6 +40,12 @@ pub record IsLarge (c : ℕ) (p : Pool) (g k : ℕ) : Type 0 where
   pub inside : g < 512 * c
   pub kind : kindAt p g ≡ Large k
 
+-- an empty run: a run of class b, starting at page g, with no taken slot
+pub record IsEmpty (c : ℕ) (p : Pool) (g b : ℕ) : Type 0 where
+  pub inside : g < 512 * c
+  pub kind : kindAt p g ≡ Class b
+  pub idle : (s : ℕ) → s < slots b → slotAt p g s ≡ false
+
 -- a live block: a large run or a taken slot (RULES 3.6)
 pub data IsLive (c : ℕ) (p : Pool) : Block → Type 0 where
   run : (g k : ℕ) → IsLarge c p g k → IsLive c p (runBlock g k)

@@ -41,3 +41,8 @@ pub record Gains (c : ℕ) (p q : Pool) (b : Block) : Type 0 where
 pub record Loses (c : ℕ) (p q : Pool) (b : Block) : Type 0 where
   pub good : Good c q
   pub less : Ins b (live c q) (live c p)
+
+-- ... or the same blocks
+pub record Stays (c : ℕ) (p q : Pool) : Type 0 where
+  pub good : Good c q
+  pub same : live c q ≡ live c p

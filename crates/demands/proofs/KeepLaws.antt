@@ -3,7 +3,7 @@ use mathlib.Core.Path.{_≡_, refl, sym, ap, _∙_, subst}
 use mathlib.Core.Logic.{_≢_}
 use mathlib.Core.Bool.{Bool, true, false, cond}
 use mathlib.Core.List.{List, [], _∷_}
-use Prim.Native.Nat.{ℕ, zero, suc, _-_}
+use Prim.Native.Nat.{ℕ, zero, suc, _-_, _*_}
 use native.Mathlib.Omega.{arith}
 use lib.Dec.{eqb, ltb}
 use lib.ListN.{length}
@@ -18,8 +18,12 @@ use Rattle.blocks.specs.Stores.{Good, Gains, Loses}
 use Rattle.blocks.proofs.ApartLaws.{live-rising}
 use Rattle.blocks.proofs.KeepLaws.{admit-good, fresh-empty, fresh-good}
 use Rattle.reserve.specs.declared.Reserved.{Reserved}
-use Rattle.reserve.specs.Reserve.{refused, attempt, reserveOf}
-use Rattle.reserve.proofs.MeanLaws.{attempt-gains, attempt-kept}
+use Rattle.reserve.specs.Reserve.{refused, serve, reserveOf}
+use Rattle.reserve.proofs.ReadyLaws.{serve-gains, serve-kept}
+use Rattle.sweep.specs.declared.Swept.{Swept}
+use Rattle.sweep.specs.Sweep.{emptyFrom, swept, sweepOf}
+use Rattle.sweep.specs.Sweep as sweeping
+use Rattle.sweep.proofs.SweepLaws.{sweeps}
 use Rattle.release.specs.Release.{give, releaseOf}
 use Rattle.release.proofs.MeanLaws.{give-loses, give-kept}
 use Rattle.requestlog.specs.declared.Cursor.{Cursor}
@@ -28,7 +32,7 @@ use Rattle.replay.specs.Run.{reserveEvent, releaseEvent, Run, ended, runAll, ru
 use Rattle.lines.specs.Lines.{linesRoom, printed, telling, printedOf}
 use Rattle.demands.specs.Demand2.{blockOf, Plays, log-done, log-refused, other-count, start-field, reserve-field, release-field, end-field}
 use Rattle.demands.specs.Demand3.{takeOut, note, notes, State, state, call, series, insert, sort}
-use Rattle.demands.specs.Demand3.{Call, check, fresh, totals, reserve, release, blockSize, next, census, replay, lines, bytes}
+use Rattle.demands.specs.Demand3.{Call, check, fresh, totals, sweep, reserve, release, blockSize, next, census, replay, lines, bytes}
 use Rattle.demands.proofs.PlayRules.{plays-all}
 use Rattle.demands.proofs.BookLaws.{ins-insert, ins-out, sort-out}
 
@@ -119,10 +123,18 @@ module _ (c d : ℕ) (x : State) (h : Booked c x) where
   unfolding call reserveOf
   reserve-keeps n =
       admit-cases (λ (y : Left Reserved Pool). Booked c (state (y .left) (note (reserveEvent n (y .answer)) (x .book))))
-      (λ m. attempt m (x .pool) n) (λ r. leaves (refused r) (x .pool))
-      (reserve-noted c n x (attempt c (x .pool) n) h (attempt-gains c (x .pool) (h .good) n)
-      (λ r e. ap (λ (y : Left Reserved Pool). y .left) (attempt-kept c (x .pool) n r e)))
+      (λ m. serve m (x .pool) n) (λ r. leaves (refused r) (x .pool))
+      (reserve-noted c n x (serve c (x .pool) n) h (serve-gains c (x .pool) (h .good) n)
+      (λ r e. ap (λ (y : Left Reserved Pool). y .left) (serve-kept c (x .pool) n r e)))
       (λ r. reserve-noted c n x (leaves (refused (suc r)) (x .pool)) h (λ e. absurd (omega arith)) (λ k e. refl))
+
+  sweep-keeps : Booked c (call (sweep d) x)
+  unfolding call sweepOf
+  sweep-keeps =
+      let s = sweeps c (x .pool) (h .good) .stays in
+      admit-cases (λ (y : Left Swept Pool). Booked c (state (y .left) (x .book)))
+      (λ m. leaves (sweeping.gained 0 (emptyFrom (x .pool) 0 (512 * m))) (swept m (x .pool))) (λ r. leaves (sweeping.gained r 0) (x .pool))
+      (record { good = s .good; listed = s .same ∙ h .listed }) (λ r. h)
 
   release-keeps : (q : ℕ) → Booked c (call (release d q) x)
   unfolding call releaseOf
@@ -194,6 +206,7 @@ call-keeps : (c : ℕ) (a : Call) (x : State) → Booked c x → Booked c (call 
 unfolding call
 call-keeps c (fresh d) x h = fresh-keeps c d x h
 call-keeps c (reserve d n) x h = reserve-keeps c d x h n
+call-keeps c (sweep d) x h = sweep-keeps c d x h
 call-keeps c (release d q) x h = release-keeps c d x h q
 call-keeps c (replay d log) x h = replay-keeps c d x h log
 call-keeps c (lines d log out) x h = lines-keeps c d x h log out

@@ -123,7 +123,7 @@ module _ (c : ℕ) (p : Pool) (h : Good c p) where
   serves-again g b s i n f x e =
       let freed : releaseOf c p (slotBlock g b s .place) .left ≡ putSlot 0 p g s =
       ap (λ (y : Left ℕ Pool). y .left) (by-place _ (slot-taken g b s i refl)) in
-      slot-serves g b s (slot-freed g b s i) f
+      slot-serves c (putSlot 0 p g s) (give-slot c p h g b s i .good) g b s (slot-freed g b s i) f
       (subst (Reserves c (putSlot 0 p g s) n) (sym (e ∙ ap (λ (y : Pool). reserveOf c y n) freed)) (rule c (putSlot 0 p g s) (give-slot c p h g b s i .good) n))
 
   pub pages-freed : (g k : ℕ) → IsLarge c p g k → (i : ℕ) → g ≤ i → i < g + suc k → kindAt (releaseOf c p (runBlock g k .place) .left) i ≡ Free
@@ -148,7 +148,7 @@ module _ (c : ℕ) (p : Pool) (h : Good c p) where
       let around = gap-freed g k r in let inside = r .inside in
       let low = around .low in let high = around .high in
       ap (λ (y : Left ℕ Pool). reserveOf c (y .left) n .answer .refusal) (by-place _ (run-there g k r refl))
-      ∙ gap-serves m t (g / 512) (omega arith) (around .gap) (around .is) (omega arith) (rule c q (give-large c p h g k r .good) n)
+      ∙ gap-serves c q (give-large c p h g k r .good) m t (g / 512) (omega arith) (around .gap) (around .is) (omega arith)
 
 -- ---- next
 

@@ -3,7 +3,7 @@ use mathlib.Core.Path.{_≡_, refl, sym, ap, _∙_}
 use mathlib.Core.Logic.{_↔_}
 use mathlib.Core.Bool.{Bool, true, false, cond, false≢true}
 use mathlib.Core.List.{List, []}
-use Prim.Native.Nat.{ℕ, zero, suc}
+use Prim.Native.Nat.{ℕ, zero, suc, _*_}
 use native.Mathlib.Omega.{arith}
 use lib.Dec.{leb, ltb}
 use lib.ListN.{length, take, drop}
@@ -17,8 +17,10 @@ use Rattle.records.specs.Calls.{fit, shapeOf, admitOf, Left, leaves, freshPool,
 use Rattle.records.proofs.AdmitLaws.{shape-fits}
 use Rattle.blocks.proofs.KeepLaws.{admit-good, good-admit}
 use Rattle.reserve.specs.declared.Reserved.{Reserved}
-use Rattle.reserve.specs.Reserve.{refused, attempt, reserveOf}
-use Rattle.reserve.proofs.MeanLaws.{attempt-kept}
+use Rattle.reserve.specs.Reserve.{refused, serve, reserveOf}
+use Rattle.reserve.proofs.ReadyLaws.{serve-kept}
+use Rattle.sweep.specs.declared.Swept.{Swept}
+use Rattle.sweep.specs.Sweep.{emptyFrom, swept, gained, sweepOf}
 use Rattle.release.specs.declared.Sized.{Sized}
 use Rattle.release.specs.declared.Spot.{Spot}
 use Rattle.release.specs.declared.Spot.the-variants as spots
@@ -91,8 +93,14 @@ module _ (c : ℕ) (p : Pool) where
   reserve-refuses : (n : ℕ) → Refuses (admitOf c p) (λ x. x .answer .refusal) (λ r. leaves (refused r) p) (reserveOf c p n)
   unfolding reserveOf
   reserve-refuses n =
-      refuses-by (admitOf c p) (λ (x : Left Reserved Pool). x .answer .refusal) (λ r. leaves (refused r) p) (attempt c p n) (λ r. refl)
-      (attempt-kept c p n)
+      refuses-by (admitOf c p) (λ (x : Left Reserved Pool). x .answer .refusal) (λ r. leaves (refused r) p) (serve c p n) (λ r. refl)
+      (serve-kept c p n)
+
+  sweep-refuses : Refuses (admitOf c p) (λ x. x .answer .refusal) (λ r. leaves (gained r 0) p) (sweepOf c p)
+  unfolding sweepOf
+  sweep-refuses =
+      refuses-by (admitOf c p) (λ (x : Left Swept Pool). x .answer .refusal) (λ r. leaves (gained r 0) p)
+      (leaves (gained 0 (emptyFrom p 0 (512 * c))) (swept c p)) (λ r. refl) (λ r e. absurd (omega arith))
 
   release-refuses : (q : ℕ) → Refuses (admitOf c p) (λ x. x .answer) (λ r. leaves r p) (releaseOf c p q)
   unfolding releaseOf
@@ -196,6 +204,7 @@ demand-1 =
       good = λ c p. (admit-good c p, good-admit c p);
       fresh = fresh-refuses;
       reserve = reserve-refuses;
+      sweep = sweep-refuses;
       release = release-refuses;
       size = size-refuses;
       next = next-refuses;

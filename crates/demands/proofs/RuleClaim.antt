@@ -1,23 +1,31 @@
 -- Demand 2: every call follows its rules. Assumes nothing.
 use mathlib.Core.Path.{_≡_, refl, sym, ap, _∙_, subst}
-use mathlib.Core.List.{List, List·Memᴰ, List·Memᴰ·head, List·Memᴰ·tail}
-use Prim.Native.Nat.{ℕ, _+_}
-use lib.ListN.{length}
+use mathlib.Core.Logic.{by-cases}
+use mathlib.Core.List.{List, _++_, List·Memᴰ, List·Memᴰ·head, List·Memᴰ·tail}
+use Prim.Native.Nat.{ℕ, _+_, _*_, _≤_, _<_}
+use native.Mathlib.Decide.{decLe}
+use native.Mathlib.Omega.{arith}
+use lib.ListN.{length, drop}
+use Rattle.bitrow.specs.Row.{countBits}
 use Rattle.records.specs.Pool.{Pool}
-use Rattle.records.specs.Calls.{Left}
+use Rattle.records.specs.Calls.{Left, leaves}
 use Rattle.records.proofs.FreshLaws.{fresh-served}
 use Rattle.blocks.specs.Blocks.{Block, live, Ins, here, there}
 use Rattle.blocks.specs.Stores.{Good}
 use Rattle.blocks.proofs.ApartLaws.{live-is}
-use Rattle.blocks.proofs.KeepLaws.{fresh-empty, fresh-good}
+use Rattle.blocks.proofs.KeepLaws.{good-admit, fresh-empty, fresh-good}
 use Rattle.release.specs.Release.{releaseOf}
+use Rattle.sweep.specs.declared.Swept.{Swept}
+use Rattle.sweep.specs.Sweep.{emptyFrom, swept, sweepOf, Sweeps}
+use Rattle.sweep.proofs.SweepLaws.{sweeps, sweep-count, sweep-by, sweep-idle}
+use Rattle.census.specs.Census.{wordsFor, counted, censusOf}
 use Rattle.census.proofs.MeanLaws.{census-lists, census-short}
 use Rattle.totals.specs.declared.Sums.{Sums}
 use Rattle.totals.specs.Totals.{given, runPages, totalled, summed, totalsOf}
-use Rattle.totals.proofs.PageLaws.{pages-add, totals-by}
+use Rattle.totals.proofs.PageLaws.{free-read, pages-add, totals-by}
 use Rattle.bytes.proofs.PartLaws.{bytes-cut, bytes-none}
 use Rattle.demands.specs.Demand2.{Reserves, Releases, Nexts, Follows, Demand2}
-use Rattle.demands.proofs.ReserveRules.{by-rule, rule, size-holds, block-gained}
+use Rattle.demands.proofs.ReserveRules.{by-rule, rule, size-holds, block-gained, page-stays}
 use Rattle.demands.proofs.PlayRules.{log-plays, written-plays}
 use Rattle.demands.proofs.PlaceRules.{by-place, place-rule, block-lost, unsized, live-served, live-sized, serves-again, pages-freed, room-freed, by-next, next-rule}
 
@@ -31,6 +39,36 @@ unfolding summed
 totals-sum c p h =
     let e = totals-by c p h in e ∙ ap (λ (x : Sums). totalled 0 (length (live c p)) (given (live c p)) (x .free)) (sym e)
 
+-- a sweep: the records, the free pages and every census
+module _ (c : ℕ) (p : Pool) (h : Good c p) where
+  left-is : sweepOf c p .left ≡ swept c p
+  left-is = ap (λ (x : Left Swept Pool). x .left) (sweep-by c p h)
+
+  left-good : Good c (sweepOf c p .left)
+  left-good = subst (Good c) (sym left-is) (sweeps c p h .stays .good)
+
+  free-is : (q : Pool) → Good c q → totalsOf c q .free + countBits (q .bits) 0 (512 * c) ≡ 512 * c
+  unfolding summed
+  free-is q g =
+      let r = free-read c q (good-admit c q g) (512 * c) (countBits (q .bits) 0 (512 * c)) refl refl in
+      ap (λ (x : Sums). x .free + countBits (q .bits) 0 (512 * c)) (totals-by c q g) ∙ omega arith
+
+  pages-gained : totalsOf c (sweepOf c p .left) .free ≡ totalsOf c p .free + sweepOf c p .answer .pages
+  pages-gained =
+      let a = free-is (sweepOf c p .left) left-good in let b = free-is p h in let d = sweep-count c p h in
+      let e : countBits (sweepOf c p .left .bits) 0 (512 * c) ≡ countBits (swept c p .bits) 0 (512 * c) = ap (λ (q : Pool). countBits (q .bits) 0 (512 * c)) left-is in
+      let f : sweepOf c p .answer .pages ≡ emptyFrom p 0 (512 * c) = ap (λ (x : Left Swept Pool). x .answer .pages) (sweep-by c p h) in
+      omega arith
+
+  census-same : (room : List ℕ) → censusOf c (sweepOf c p .left) room ≡ censusOf c p room
+  census-same room =
+      let l : live c (sweepOf c p .left) ≡ live c p = ap (live c) left-is ∙ sweeps c p h .stays .same in
+      by-cases (decLe (2 * length (live c p)) (length room))
+      (λ a. census-lists c (sweepOf c p .left) room left-good (subst (λ (x : List Block). 2 * length x ≤ length room) (sym l) a)
+      ∙ ap (λ (x : List Block). leaves (counted 0 (length x)) (wordsFor x ++ drop (2 * length x) room)) l ∙ sym (census-lists c p room h a))
+      (λ a. census-short c (sweepOf c p .left) room left-good (subst (λ (x : List Block). length room < 2 * length x) (sym l) (omega arith))
+      ∙ sym (census-short c p room h (omega arith)))
+
 follows : (c : ℕ) (p : Pool) → Good c p → Follows c p
 unfolding summed
 follows c p h =
@@ -38,6 +76,14 @@ follows c p h =
       reserve = λ n x. (by-rule c p h n, λ e. subst (Reserves c p n) e (rule c p h n));
       holds = λ n. size-holds (rule c p h n);
       gains = block-gained c p h;
+      stays = page-stays c p h;
+      swept = (
+        ap (λ (x : Left Swept Pool). x .answer .refusal) (sweep-by c p h),
+        subst (Sweeps c p) (sym (left-is c p h)) (sweeps c p h),
+      );
+      gained = pages-gained c p h;
+      listed = census-same c p h;
+      idle = λ e. left-is c p h ∙ sweep-idle c p (sym (ap (λ (x : Left Swept Pool). x .answer .pages) (sweep-by c p h)) ∙ e);
       release = λ q x. (by-place c p h q, λ e. subst (Releases c p q) e (place-rule c p h q));
       served = λ q. (
         λ e. let (b, at, less) = block-lost c p h q e in (b, ins-in (less .less), at),

@@ -1,6 +1,8 @@
 -- Demand 2 (RULES 11): "Sizes, places and refusals follow the rules: the smallest class that holds the request, the lowest free slot of that
 -- class, otherwise the shortest gap that is long enough in the first chunk that has one. 'No room' is answered exactly when neither exists. A
--- freed slot serves its class again; the pages of a freed run count as free for any request."
+-- freed slot serves its class again; the pages of a freed run count as free for any request."; and as request 1 of the engineer's twelve has
+-- it: "When 4 is due, every class run with no taken slot counts as free pages and the search is made once more; 4 is given exactly when that
+-- finds nothing too. If the second search succeeds, all such runs are given back and the block is taken; if not, the records stay unchanged."
 -- It is said of what the calls answer and leave on sound records, for every number of chunks, size and place; what they answer on others is
 -- in Demand1. Assumes nothing.
 use mathlib.Core.Path.{_≡_}
@@ -20,6 +22,7 @@ use Rattle.blocks.specs.Blocks.{Block, block, slotBlock, runBlock, IsSlot, IsLa
 use Rattle.blocks.specs.Stores.{putRun, putSlot, Good, Gains, Loses}
 use Rattle.reserve.specs.declared.Reserved.{Reserved}
 use Rattle.reserve.specs.Reserve.{refused, slotGiven, runGiven, reserveOf}
+use Rattle.sweep.specs.Sweep.{sweepOf, Sweeps}
 use Rattle.release.specs.Release.{releaseOf, sized, sizeOf}
 use Rattle.next.specs.declared.Next as next
 use Rattle.next.specs.Next.{answered, nextOf}
@@ -59,21 +62,31 @@ pub data Takes (n : ℕ) : ℕ → Type 0 where
   class-pages : (b : ℕ) → n ≤ 3072 → Smallest n b → Takes n (pages b)
   large-pages : (k : ℕ) → 3072 < n → n ≤ 2093056 → Fewest n k → Takes n k
 
--- what a reserve of n bytes answers and leaves, a line for each rule. `IsPlace c bits k g`: page g is the first of the shortest gap of at
--- least k pages in the first chunk that has one
-pub data Reserves (c : ℕ) (p : Pool) (n : ℕ) : Left Reserved Pool → Type 0 where
+-- n bytes find no room: no slot of their class is free, and no gap in these page bits is long enough
+pub data NoRoom (c : ℕ) (p : Pool) (bits : List ℕ) (n : ℕ) : Type 0 where
+  no-slot : (b : ℕ) → n ≤ 3072 → Smallest n b → NoSlot c p b → NoGap c bits (pages b) → NoRoom c p bits n
+  no-run : (k : ℕ) → 3072 < n → n ≤ 2093056 → Fewest n k → NoGap c bits k → NoRoom c p bits n
+
+-- they find room: what is answered and left, a line for each rule. `IsPlace c bits k g`: page g is the first of the shortest gap of at least
+-- k pages in the first chunk that has one
+pub data Places (c : ℕ) (p : Pool) (n : ℕ) : Left Reserved Pool → Type 0 where
   -- a slot of the smallest class that holds n bytes: the lowest that is free
-  lowest-slot : (b g s : ℕ) → n ≤ 3072 → Smallest n b → LowestSlot c p b g s → Reserves c p n (leaves (slotGiven g b s) (putSlot 1 p g s))
+  lowest-slot : (b g s : ℕ) → n ≤ 3072 → Smallest n b → LowestSlot c p b g s → Places c p n (leaves (slotGiven g b s) (putSlot 1 p g s))
   -- where none is free, slot 0 of a new run
   new-run : (b g : ℕ) → n ≤ 3072 → Smallest n b → NoSlot c p b → IsPlace c (p .bits) (pages b) g
-      → Reserves c p n (leaves (slotGiven g b 0) (putSlot 1 (putRun 1 p g (wordsOf (Class b))) g 0))
-  -- neither
-  no-slot : (b : ℕ) → n ≤ 3072 → Smallest n b → NoSlot c p b → NoGap c (p .bits) (pages b) → Reserves c p n (leaves (refused noRoom) p)
+      → Places c p n (leaves (slotGiven g b 0) (putSlot 1 (putRun 1 p g (wordsOf (Class b))) g 0))
   -- a large run of the fewest pages that hold n bytes
   large-run : (k g : ℕ) → 3072 < n → n ≤ 2093056 → Fewest n (suc k) → IsPlace c (p .bits) (suc k) g
-      → Reserves c p n (leaves (runGiven g (suc k)) (putRun 1 p g (wordsOf (Large k))))
-  -- no gap for it
-  no-run : (k : ℕ) → 3072 < n → n ≤ 2093056 → Fewest n (suc k) → NoGap c (p .bits) (suc k) → Reserves c p n (leaves (refused noRoom) p)
+      → Places c p n (leaves (runGiven g (suc k)) (putRun 1 p g (wordsOf (Large k))))
+
+-- what a reserve of n bytes answers and leaves
+pub data Reserves (c : ℕ) (p : Pool) (n : ℕ) : Left Reserved Pool → Type 0 where
+  -- it finds room
+  at-once : {x : Left Reserved Pool} → Places c p n x → Reserves c p n x
+  -- it finds none, but does when the pool is swept: then all empty runs are given back, and the block is taken
+  sweep-first : {x : Left Reserved Pool} → NoRoom c p (p .bits) n → Places c (sweepOf c p .left) n x → Reserves c p n x
+  -- no slot of the class is free, and no gap is long enough even in the swept page bits
+  no-room : NoRoom c p (sweepOf c p .left .bits) n → Reserves c p n (leaves (refused noRoom) p)
   -- too big
   too-big : 2093056 < n → Reserves c p n (leaves (refused tooBig) p)
 
@@ -149,11 +162,20 @@ inTurn c p (f ∷ l) = withEvent (doField c p f .answer) (inTurn c (doField c p 
 -- of a sound pool p of c chunks
 pub record Follows (c : ℕ) (p : Pool) : Type 0 where
   -- A reserve answers and leaves what a rule says, and whatever a rule says is what it answers and leaves. So the rules cover every size,
-  -- and no two of them overlap; 3 is answered exactly above 2,093,056 bytes, and 4 exactly where neither a slot nor a gap is there
+  -- and no two of them overlap; 3 is answered exactly above 2,093,056 bytes, and 4 exactly where neither a free slot is there nor, swept, a gap
   pub reserve : (n : ℕ) (x : Left Reserved Pool) → Reserves c p n x ↔ (reserveOf c p n ≡ x)
   -- what is served holds the request, and is put into the live blocks; they are the same otherwise
   pub holds : (n : ℕ) → reserveOf c p n .answer .refusal ≡ 0 → n ≤ reserveOf c p n .answer .size
   pub gains : (n : ℕ) → reserveOf c p n .answer .refusal ≡ 0 → Gains c p (reserveOf c p n .left) (blockOf (reserveOf c p n .answer))
+  -- where it finds room as the pool is, each taken page stays what it is: no empty run is given back
+  pub stays : (n : ℕ) → (NoRoom c p (p .bits) n → ⊥) → (i : ℕ) → kindAt p i ≢ Free → kindAt (reserveOf c p n .left) i ≡ kindAt p i
+  -- a sweep is served: the pages of empty runs are free, all else is as it was, and no empty run is left
+  pub swept : (sweepOf c p .answer .refusal ≡ 0) × Sweeps c p (sweepOf c p .left)
+  -- it gains these pages, and every census is the same as before
+  pub gained : totalsOf c (sweepOf c p .left) .free ≡ totalsOf c p .free + sweepOf c p .answer .pages
+  pub listed : (room : List ℕ) → censusOf c (sweepOf c p .left) room ≡ censusOf c p room
+  -- where there is nothing to gain, nothing changes
+  pub idle : sweepOf c p .answer .pages ≡ 0 → sweepOf c p .left ≡ p
   -- so a release, over every place
   pub release : (q : ℕ) (x : Left ℕ Pool) → Releases c p q x ↔ (releaseOf c p q ≡ x)
   -- it is served exactly where a live block has the place, and takes that one out of the live blocks

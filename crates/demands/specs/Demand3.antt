@@ -15,6 +15,7 @@ use Rattle.records.specs.Pool.{Pool, pool}
 use Rattle.records.specs.Calls.{freshOf, leaves}
 use Rattle.blocks.specs.Blocks.{Block, block, Rising}
 use Rattle.reserve.specs.Reserve.{reserveOf}
+use Rattle.sweep.specs.Sweep.{sweepOf}
 use Rattle.release.specs.Release.{releaseOf}
 use Rattle.census.specs.Census.{wordsFor, counted, censusOf}
 use Rattle.replay.specs.declared.Event.{Event}
@@ -48,7 +49,7 @@ notes (e ∷ l) book = notes l (note e book)
 
 pub data Call : Type 0 where
   -- c
-  check fresh totals : ℕ → Call
+  check fresh totals sweep : ℕ → Call
   -- c, size
   reserve : ℕ → ℕ → Call
   -- c, place
@@ -75,6 +76,8 @@ unfoldable pub call : Call → State → State
 call (fresh c) x = state (freshOf c (x .pool) .left) (cond (eqb (freshOf c (x .pool) .answer) 0) (note (Started c) (x .book)) (x .book))
 call (reserve c n) x = state (reserveOf c (x .pool) n .left) (note (reserveEvent n (reserveOf c (x .pool) n .answer)) (x .book))
 call (release c q) x = state (releaseOf c (x .pool) q .left) (note (releaseEvent q (releaseOf c (x .pool) q .answer)) (x .book))
+-- a sweep books nothing
+call (sweep c) x = state (sweepOf c (x .pool) .left) (x .book)
 -- its fields in turn: all of an accepted log, else those before the position, none at refusal 1
 call (replay c log) x = state (replayOf c (x .pool) log .left) (notes (runOf c (x .pool) log .events) (x .book))
 -- a replay, unless the buffer is refused

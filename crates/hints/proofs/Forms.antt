@@ -2,25 +2,27 @@
 use mathlib.Core.Path.{_≡_, refl, sym, ap, ap₂, _∙_, subst}
 use mathlib.Core.Bool.{Bool, true}
 use mathlib.Core.List.{List}
-use Prim.Native.Nat.{ℕ, _+_, _*_, _<_, min}
+use Prim.Native.Nat.{ℕ, _+_, _*_, _≤_, _<_, min}
 use native.Mathlib.Omega.{arith}
 use lib.Dec.{ltb}
 use lib.ListN.{length, getD, set, length-set}
 use Rattle.bitrow.specs.Row.{digit, putBit}
 use Rattle.bitrow.proofs.Marks.{length-put-bit}
 use Rattle.classes.specs.declared.Row.{Row}
-use Rattle.classes.specs.Classes.{rowOf, rows, rowAt, size, slots}
+use Rattle.classes.specs.Classes.{rowOf, rows, rowAt, size, slots, classFor}
 use Rattle.records.specs.Pool.{Pool}
 use Rattle.records.specs.Calls.{admitOf, Left, leaves}
 use Rattle.records.proofs.RunLaws.{class-at-low}
 use Rattle.records.proofs.AdmitLaws.{admitted}
-use Rattle.blocks.specs.Stores.{putRun, putSlot}
+use Rattle.blocks.specs.Stores.{putRun, putSlot, Good}
 use Rattle.reserve.specs.declared.Reserved.{Reserved}
 use Rattle.reserve.specs.declared.Plan.{Plan}
 use Rattle.reserve.specs.declared.Plan.the-variants.{Refuse, TakeSlot, NewClass, NewLarge}
-use Rattle.reserve.specs.Reserve.{lowestFree, plan, perform, answer, attempt}
+use Rattle.reserve.specs.Reserve.{lowestFree, slotPage, planSlot, plan, isFull, ready, perform, answer, attempt, serve}
 use Rattle.reserve.specs.Plans.{PlanOk}
+use Rattle.reserve.proofs.PlanLaws.{plan-in, plan-small}
 use Rattle.reserve.proofs.AnswerForms.{plan-good}
+use Rattle.reserve.proofs.ReadyLaws.{room-here}
 use Rattle.release.specs.declared.Spot.{Spot}
 use Rattle.release.specs.declared.Spot.the-variants.{Nowhere, Run, Slot}
 use Rattle.release.specs.Release.{spot}
@@ -92,10 +94,17 @@ module _ (c : ℕ) (p : Pool) (ok : admitOf c p ≡ 0) where
 pub left-of : {A : Type 0} {a b : A} {p q : Pool} → leaves a p ≡ leaves b q → p ≡ q
 left-of {A} e = ap (λ (x : Left A Pool). x .left) e
 
--- the plan for n bytes, carried out
-pub attempted : (c : ℕ) (p : Pool) (n : ℕ) {x : Plan} {y : Left Reserved Pool} → x ≡ plan c p n → y ≡ carried p x → y ≡ attempt c p n
-unfolding attempt
-attempted c p n e f = f ∙ ap (carried p) e
+-- the plan for n bytes, carried out on the pool in which they are placed
+pub served-by : (c : ℕ) (p q : Pool) (n : ℕ) {x : Plan} {y : Left Reserved Pool} → q ≡ ready c p n → x ≡ plan c q n → y ≡ carried q x → y ≡ serve c p n
+unfolding serve attempt
+served-by c p q n r e f = f ∙ ap (carried q) e ∙ ap (λ (z : Pool). carried z (plan c z n)) r
+
+-- a slot that is free is found at once
+pub served-slot : (c : ℕ) (p : Pool) → Good c p → (n b g : ℕ) {y : Left Reserved Pool} → g ≡ slotPage p b 0 (512 * c) → g < 512 * c → n ≤ 3072 → b ≡ classFor n
+    → y ≡ carried p (planSlot c p b) → y ≡ serve c p n
+served-slot c p h n b g e l m f k =
+    let planned = plan-small c p n b (planSlot c p b) m f refl in
+    served-by c p p n (room-here c p h n _ planned (ap isFull (sym (plan-in c p b g _ e l refl)))) planned k
 
 pub given : (c : ℕ) (p : Pool) (n : ℕ) (x : Plan) → x ≡ plan c p n → {q : Pool} {r : Reserved}
     → r ≡ answer x → q ≡ perform p x → leaves r q ≡ carried p x

@@ -33,7 +33,7 @@ has-none : (p : Pool) (d i : ℕ) (k : Kind) → kindAt p i ≡ k → isRunOf d 
 unfolding hasSlot
 has-none p d i k e f = ap (λ (t : Bool). t && ltb (lowestFree (p .slots) d i) (slots d)) (ap (isRunOf d) e ∙ f)
 
-has-too : (c : ℕ) (p q : Pool) (d i : ℕ) → i < 512 * c → kindAt p i ≡ kindAt q i → ((s : ℕ) → s < 512 → slotAt p i s ≡ slotAt q i s)
+pub has-too : (c : ℕ) (p q : Pool) (d i : ℕ) → i < 512 * c → kindAt p i ≡ kindAt q i → ((s : ℕ) → s < 512 → slotAt p i s ≡ slotAt q i s)
     → hasSlot p d i ≡ true → hasSlot q d i ≡ true
 has-too c p q d i l k s e =
     let f = has-free c p d i l e in

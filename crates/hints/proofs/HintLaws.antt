@@ -31,7 +31,7 @@ use Rattle.blocks.proofs.KeepLaws.{admit-good, take-large, free-large, take-cla
 use Rattle.reserve.specs.declared.Reserved.{Reserved}
 use Rattle.reserve.specs.declared.Plan.{Plan}
 use Rattle.reserve.specs.declared.Plan.the-variants.{Refuse, TakeSlot, NewClass, NewLarge}
-use Rattle.reserve.specs.Reserve.{lowestFree, hasSlot, slotPage, ifFound, slotOrRun, planSlot, planRun, pagesFor, planLarge, plan, perform, slotGiven}
+use Rattle.reserve.specs.Reserve.{lowestFree, hasSlot, slotPage, ifFound, planClass, slotOrRun, planSlot, planRun, pagesFor, planLarge, plan, perform, slotGiven}
 use Rattle.reserve.specs.Plans.{PlanOk}
 use Rattle.reserve.proofs.PlanLaws.{free-first, searched, slot-ok, plan-in}
 use Rattle.reserve.proofs.MeanLaws.{found-run}
@@ -55,7 +55,7 @@ PlanFirst c p (NewLarge g n) = Unit {0}
 
 module _ (c : ℕ) (p : Pool) where
   slot-first : (b : ℕ) → PlanFirst c p (planSlot c p b)
-  unfolding planSlot slotOrRun
+  unfolding planSlot slotOrRun planClass
   slot-first b =
       let w = searched p b (512 * c) 0 in
       lt-cases (PlanFirst c p) (slotPage p b 0 (512 * c)) (512 * c)

@@ -1,4 +1,5 @@
 pub mod HasLaws
 pub mod RowLaws
 pub mod HintLaws
+pub mod MaskLaws
 pub mod Forms

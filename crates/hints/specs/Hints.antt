@@ -1,11 +1,13 @@
 -- What is kept beside sound records by a caller that reserves and releases many times, so that no call walks the pages. Assumes nothing.
 use mathlib.Core.Path.{_≡_}
+use mathlib.Core.Logic.{_⊎_}
 use mathlib.Core.Bool.{Bool, true}
 use mathlib.Core.List.{List}
 use Prim.Native.Nat.{ℕ, _+_, _*_, _≤_, _<_, min}
+use lib.Bits.{bitAnd}
 use lib.Dec.{ltb}
 use lib.ListN.{length, getD, set}
-use Rattle.bitrow.specs.Row.{digit, isSet, putBit}
+use Rattle.bitrow.specs.Row.{digit, bitAt, isSet, putBit}
 use Rattle.classes.specs.Classes.{size, slots}
 use Rattle.records.specs.Pool.{Pool}
 use Rattle.records.specs.Calls.{Left, leaves, freshPool}
@@ -72,6 +74,18 @@ abbrev pub notedSpot : List ℕ → Spot → List ℕ
 notedSpot l (Nowhere r) = l
 notedSpot l (Run g k) = l
 notedSpot l (Slot g b s) = noted l b (min (getD l (3840 + b) 0) g) g true
+
+-- of the marks of class b, the first n words have lost those of the pages whose bit is 0; nothing else has changed
+pub record RowMasked (bits l l′ : List ℕ) (b n : ℕ) : Type 0 where
+  pub long : length l′ ≡ length l
+  pub here : (k : ℕ) → k < n → getD l′ (128 * b + k) 0 ≡ bitAnd (getD l (128 * b + k) 0) (getD bits k 0)
+  pub other : (j : ℕ) → (j < 128 * b) ⊎ (128 * b + n ≤ j) → getD l′ j 0 ≡ getD l j 0
+
+-- the marks of the first n classes have lost those of the pages of c chunks whose bit is 0; the numbers behind them are as they were
+pub record Masked (c : ℕ) (bits l l′ : List ℕ) (n : ℕ) : Type 0 where
+  pub long : length l′ ≡ length l
+  pub here : (b g : ℕ) → b < n → g < 512 * c → bitAt l′ (8192 * b + g) ≡ min (bitAt l (8192 * b + g)) (bitAt bits g)
+  pub other : (j : ℕ) → 128 * n ≤ j → getD l′ j 0 ≡ getD l j 0
 
 -- the numbers of a plan are those of a pool with n words of slot bits
 abbrev pub PlanNear : ℕ → Plan → Type 0

@@ -9,10 +9,10 @@ ghost use Rattle.records.specs.declared.Kind.the-variants.{Class};
 ghost use Rattle.records.specs.Kinds.{slotsOf};
 ghost use Rattle.records.specs.Lent.{lent, before, after};
 ghost use Rattle.records.specs.Calls.{admitOf, leaves};
-ghost use Rattle.reserve.specs.Reserve.{slotPage, planSlot, attempt};
+ghost use Rattle.reserve.specs.Reserve.{slotPage, planSlot, plan, serve};
 ghost use Rattle.reserve.specs.Plans.{PlanSize};
 ghost use Rattle.release.specs.Release.{spot, give};
-ghost use Rattle.hints.specs.Hints.{Cuts, Hints, Cleared, Fresh, carried, IsPlan, noted, notedSlot, notedPlan, notedSpot, PlanNear, SpotNear};
+ghost use Rattle.hints.specs.Hints.{Cuts, Hints, Cleared, Fresh, RowMasked, Masked, carried, IsPlan, noted, notedSlot, notedPlan, notedSpot, PlanNear, SpotNear};
 
 // All numbers get 0.
 fn clear(hints: &mut [u64])
@@ -152,6 +152,61 @@ fn carry_out(
     reserve::answer_of(x, bytes)
 }
 
+// The marks of class b go where the page bit is 0, 64 pages at a time.
+fn mask_row(c: u64, bits: &[u64], hints: &mut [u64], b: usize)
+    requires few { ⌜ c ≤ 16 ⌝ }
+    requires bit { ⌜ length (now bits) ≡ 8 * c ⌝ }
+    requires long { ⌜ length (now hints) ≡ 3930 ⌝ }
+    requires class { ⌜ b < 30 ⌝ }
+    ensures { λ _. ⌜ RowMasked (now (bits .entry)) (now (hints .entry)) (now (hints .exit)) b (8 * c) ⌝ }
+{
+    let n = 8 * (c as usize);
+    let mut k = 0;
+    while k < n {
+        let w = hints[128 * b + k];
+        hints[128 * b + k] = w & bits[k];
+        k += 1;
+    }
+}
+
+// The runs that were swept lose their marks; one that stands has the bit of its first page.
+fn mask_marks(c: u64, bits: &[u64], hints: &mut [u64])
+    requires few { ⌜ c ≤ 16 ⌝ }
+    requires bit { ⌜ length (now bits) ≡ 8 * c ⌝ }
+    requires long { ⌜ length (now hints) ≡ 3930 ⌝ }
+    ensures { λ _. ⌜ Masked c (now (bits .entry)) (now (hints .entry)) (now (hints .exit)) 30 ⌝ }
+{
+    let mut b = 0;
+    while b < 30 {
+        mask_row(c, bits, hints, b);
+        b += 1;
+    }
+}
+
+// Performs x, the plan for n bytes, behind a sweep where that is needed and helps.
+fn carry_ready(
+    c: u64,
+    bits: &mut [u64],
+    words: &mut [u32],
+    slots: &mut [u64],
+    n: u64,
+    hints: &mut [u64],
+    x: reserve::Plan,
+) -> reserve::Reserved
+    requires sound { ⌜ admitOf c (lent bits words slots) ≡ 0 ⌝ }
+    requires hinted { ⌜ Hints c (lent bits words slots) (now hints) ⌝ }
+    requires plan { ⌜ x ≡ plan c (lent bits words slots) n ⌝ }
+    ensures given { λ r. ⌜ leaves r (after bits words slots) ≡ serve c (before bits words slots) n ⌝ }
+    ensures hinted { λ r. ⌜ Hints c (after bits words slots) (now (hints .exit)) ⌝ }
+{
+    if !reserve::is_full(x) {
+        return carry_out(c, bits, words, slots, hints, x);
+    }
+    let y = reserve::make_room(c, bits, words, slots, n, x);
+    mask_marks(c, bits, hints);
+    carry_out(c, bits, words, slots, hints, y)
+}
+
 // The work of a reserve, with hints.
 pub fn reserve_hinted(
     c: u64,
@@ -162,7 +217,7 @@ pub fn reserve_hinted(
     hints: &mut [u64],
 ) -> reserve::Reserved
     requires { ⌜ (admitOf c (lent bits words slots) ≡ 0) × (Hints c (lent bits words slots) (now hints)) ⌝ }
-    ensures given { λ r. ⌜ leaves r (after bits words slots) ≡ attempt c (before bits words slots) n ⌝ }
+    ensures given { λ r. ⌜ leaves r (after bits words slots) ≡ serve c (before bits words slots) n ⌝ }
     ensures hinted { λ r. ⌜ Hints c (after bits words slots) (now (hints .exit)) ⌝ }
 {
     if n <= 3072 {
@@ -173,10 +228,10 @@ pub fn reserve_hinted(
             return take_slot(c, bits, words, slots, hints, g, b, k);
         }
         let x = reserve::plan_slot(c, bits, words, slots, b, k, g);
-        return carry_out(c, bits, words, slots, hints, x);
+        return carry_ready(c, bits, words, slots, n, hints, x);
     }
     let x = reserve::plan_large(c, bits, n);
-    carry_out(c, bits, words, slots, hints, x)
+    carry_ready(c, bits, words, slots, n, hints, x)
 }
 
 // What starts at the place q.

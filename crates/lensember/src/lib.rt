@@ -4,6 +4,7 @@ ghost use mathlib.Core.Path.{_≡_};
 ghost use Rattle.records.specs.Lent.{before, after};
 ghost use Rattle.records.specs.Calls.{admitOf, leaves, freshOf};
 ghost use Rattle.reserve.specs.Reserve.{reserveOf};
+ghost use Rattle.sweep.specs.Sweep.{sweepOf};
 ghost use Rattle.release.specs.Release.{releaseOf, sizeOf};
 ghost use Rattle.next.specs.Next.{nextOf};
 ghost use Rattle.census.specs.Census.{censusOf};
@@ -126,6 +127,26 @@ pub extern "C" fn lensember_release(
         return a;
     }
     release::release_sound(c, bits, words, slots, place)
+}
+
+// Sweep (RULES 5.5): the pages gained, or refusal 1 or 2 and nothing is changed.
+#[no_mangle]
+pub extern "C" fn lensember_sweep(
+    c: u64,
+    bits: &mut [u64],
+    words: &mut [u32],
+    slots: &mut [u64],
+) -> sweep::Swept
+    ensures { λ r. ⌜ leaves r (after bits words slots) ≡ sweepOf c (before bits words slots) ⌝ }
+{
+    let a = admit::admit(c, bits, words, slots);
+    if a != 0 {
+        return sweep::Swept {
+            refusal: a,
+            pages: 0,
+        };
+    }
+    sweep::sweep_sound(c, bits, words, slots)
 }
 
 // Block size (RULES 6.2): the size given to the live block at the place, or refusal 1, 2, 5 or 6.

@@ -1,5 +1,6 @@
 pub mod Flags
 pub mod KindLaws
+pub mod SlotLaws
 pub mod WalkLaws
 pub mod RunLaws
 pub mod FreshLaws

@@ -4,21 +4,21 @@ use mathlib.Core.Logic.{_≢_, _⊎_, ⊎-elim, by-cases}
 use mathlib.Core.Bool.{Bool, true, false}
 use mathlib.Core.Option.{some, Option·none-ne-some, Option·some-injective}
 use mathlib.Core.List.{List, []}
-use Prim.Native.Nat.{ℕ, suc, _+_, _-_, _*_, _/_, _%_, _≤_, _<_}
-use native.Mathlib.Decide.{ℕ-discrete, decLt}
+use Prim.Native.Nat.{ℕ, suc, _+_, _-_, _*_, _/_, _%_, _^_, _≤_, _<_}
+use native.Mathlib.Decide.{ℕ-discrete, decLt, decLe}
 use native.Mathlib.Omega.{arith}
 use lib.ListN.{length, getD}
 use borrow.Author.Tests.{eq-eqb}
 use Rattle.bitrow.specs.Row.{isSet}
 use Rattle.records.specs.declared.Kind.{Kind}
 use Rattle.records.specs.declared.Kind.the-variants.{Edge, Free, Damaged, Large, Class, Inner}
-use Rattle.records.specs.Kinds.{innerWord, kindOf, behind, spanOf}
+use Rattle.records.specs.Kinds.{innerWord, kindOf, behind, spanOf, ClassPart}
 use Rattle.records.specs.Pool.{Pool, isEdge, kindAt}
 use Rattle.records.specs.Sound.{step, sound}
 use Rattle.records.specs.Runs.{InRun, LiesBy, Lies, Runs}
-use Rattle.records.proofs.Flags.{eq-cases, lt-cases, le-cases}
+use Rattle.records.proofs.Flags.{cond-eq, cond-ne, eq-cases, lt-cases, le-cases}
 use Rattle.records.proofs.KindLaws.{length-zeros, getD-zeros, length-inner, getD-inner}
-use Rattle.records.proofs.WordLaws.{page-inner}
+use Rattle.records.proofs.WordLaws.{page-word, page-inner, right}
 use Rattle.records.proofs.WalkLaws.{walk, walk-next, sound-walks, walk-found, Begins, walk-at, Home, walk-home}
 
 -- ---- what a word can mean
@@ -201,7 +201,7 @@ module _ (c : ℕ) (p : Pool) (s : sound c p ≡ true) where
 -- ---- what a page lies in
 
 -- a page inside a run that has a low word has the word 0
-abbrev Nought : Kind → Type 0
+abbrev pub Nought : Kind → Type 0
 Nought Edge = Unit {0}
 Nought Free = Unit {0}
 Nought Damaged = Unit {0}
@@ -218,7 +218,7 @@ low-inner false true w l =
     (λ a. le-cases Nought 0x80000000 w (λ b. lt-cases Nought w 0x8000001E (λ d. tt) (λ d. tt))
     (λ b. le-cases Nought 0x40000001 w (λ d. lt-cases Nought w 0x40000200 (λ e. tt) (λ e. tt)) (λ d. eq-cases Nought w 0 (λ e. e) (λ e. tt))))
 
-page-nought : (p : Pool) (g : ℕ) → getD (p .words) g 0 < 0xC0000000 → Nought (kindAt p g)
+pub page-nought : (p : Pool) (g : ℕ) → getD (p .words) g 0 < 0xC0000000 → Nought (kindAt p g)
 unfolding kindAt
 page-nought p g l = low-inner (isEdge g) (isSet (p .bits) g) (getD (p .words) g 0) l
 
@@ -241,3 +241,23 @@ lies-back c p s g l k b h e f =
 -- in the arm of a match: the kind that was told is this one
 pub lies-as : {p : Pool} {g f : ℕ} {j k : Kind} → j ≡ k → Lies p g f j → Lies p g f k
 lies-as {p} {g} {f} e r = subst (Lies p g f) e r
+
+-- ---- the part of a class run that a page is
+
+pub part-is : (c : ℕ) (p : Pool) → sound c p ≡ true → (g : ℕ) → g < 512 * c → (w : ℕ) → w ≡ getD (p .words) g 0 → w < 2 ^ 32
+    → ClassPart (w / 0x40000000) (kindAt p g)
+part-is c p s g l w e m = go (kindAt p g) refl
+  where
+    go : (k : Kind) → kindAt p g ≡ k → ClassPart (w / 0x40000000) k
+    go Edge x = let z = page-word p g x in omega arith
+    go Free x = let z = page-word p g x in omega arith
+    go Damaged x = absurd (right c p s g l x)
+    go (Large k) x = let z = page-word p g x in let n = large-at-low p g k x in omega arith
+    go (Class b) x = let z = page-word p g x in let n = class-at-low p g b x in omega arith
+    go (Inner v) x =
+        let z = page-word p g x in
+        by-cases (ℕ-discrete v 0) (λ n. (let r : w / 0x40000000 ≡ 0 = omega arith in r) ∙ sym (cond-eq v 0 0 3 n))
+        (λ n.
+        let high : 0xC0000000 ≤ getD (p .words) g 0 =
+        by-cases (decLe 0xC0000000 (getD (p .words) g 0)) (λ a. a) (λ a. absurd (n (subst Nought x (page-nought p g (omega arith))))) in
+        (let r : w / 0x40000000 ≡ 3 = omega arith in r) ∙ sym (cond-ne v 0 0 3 n))

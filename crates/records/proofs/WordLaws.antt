@@ -43,6 +43,32 @@ pub page-word : (p : Pool) (g : ℕ) {k : Kind} → kindAt p g ≡ k → WordIs 
 unfolding kindAt
 page-word p g e = subst (WordIs (getD (p .words) g 0)) e (kind-word (isEdge g) (isSet (p .bits) g) (getD (p .words) g 0))
 
+-- ---- what it tells of its bit
+
+abbrev Taken : Kind → Type 0
+Taken Edge = Unit {0}
+Taken Free = ⊥
+Taken Damaged = Unit {0}
+Taken (Large k) = Unit {0}
+Taken (Class b) = Unit {0}
+Taken (Inner w) = Unit {0}
+
+bit-taken : (v : Bool) (w : ℕ) → Taken (kindOf v true w)
+bit-taken true w = eq-cases Taken w 0x40000001 (λ a. tt) (λ a. tt)
+bit-taken false w =
+    le-cases Taken 0xC0000000 w (λ a. tt)
+    (λ a. le-cases Taken 0x80000000 w (λ b. lt-cases Taken w 0x8000001E (λ d. tt) (λ d. tt))
+    (λ b. le-cases Taken 0x40000001 w (λ d. lt-cases Taken w 0x40000200 (λ e. tt) (λ e. tt)) (λ d. eq-cases Taken w 0 (λ e. tt) (λ e. tt))))
+
+-- a free page has the bit 0
+pub free-clear : (p : Pool) (g : ℕ) → kindAt p g ≡ Free → isSet (p .bits) g ≡ false
+unfolding kindAt
+free-clear p g e = go (isSet (p .bits) g) e
+  where
+    go : (t : Bool) → kindOf (isEdge g) t (getD (p .words) g 0) ≡ Free → t ≡ false
+    go true x = absurd (subst Taken x (bit-taken (isEdge g) (getD (p .words) g 0)))
+    go false x = refl
+
 -- ---- a word that is not damaged
 
 -- on page 0 it is the word of page 0
@@ -112,7 +138,7 @@ module _ (v t : Bool) (w : ℕ) (n : kindOf v t w ≢ Damaged) where
 -- ---- a page of sound records
 
 module _ (c : ℕ) (p : Pool) (s : sound c p ≡ true) (g : ℕ) (l : g < 512 * c) where
-  right : kindAt p g ≢ Damaged
+  pub right : kindAt p g ≢ Damaged
   right = walk-right (kindAt p) (512 * c) [] 0 (sound-walks c p s .walks) g (omega arith) (omega arith)
 
   pub page-inner : 0xC0000000 ≤ getD (p .words) g 0 → kindAt p g ≡ Inner (getD (p .words) g 0)

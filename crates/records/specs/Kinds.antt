@@ -1,8 +1,9 @@
 -- Pages: what a page's word means, and how a run is written (RULES 3.2).
 -- Assumes nothing.
+use mathlib.Core.Path.{_≡_}
 use mathlib.Core.Bool.{Bool, true, false, cond}
 use mathlib.Core.List.{List, [], _∷_}
-use Prim.Native.Nat.{ℕ, zero, suc, _+_, _-_, _*_}
+use Prim.Native.Nat.{ℕ, zero, suc, _+_, _-_, _*_, _<_}
 use lib.Dec.{eqb, ltb, leb}
 use lib.ListN.{replicate}
 use Rattle.classes.specs.Classes.{slots, pages}
@@ -81,3 +82,12 @@ isRunOf b k = begins k false (λ n. false) (λ d. eqb d b)
 -- the pages of the run that starts at a page; none where no run starts
 abbrev pub spanOf : Kind → ℕ
 spanOf k = begins k 0 suc (λ b. suc (behind b))
+
+-- the part of a class run that a page is, as a number: 2 its first page, 3 one behind it, less where it is none
+abbrev pub ClassPart : ℕ → Kind → Type 0
+ClassPart r Edge = r < 2
+ClassPart r Free = r < 2
+ClassPart r Damaged = r < 2
+ClassPart r (Large k) = r < 2
+ClassPart r (Class b) = r ≡ 2
+ClassPart r (Inner w) = r ≡ cond (eqb w 0) 0 3

@@ -22,6 +22,10 @@ named p g s = cond (slotAt p g s) (ltb s (slotsOf (kindAt p g))) true
 unfoldable pub clean : Pool → ℕ → Bool
 clean p g = all 512 (named p g)
 
+-- none of the slots of the run that starts at page g is taken: all 512 bits are 0
+unfoldable pub idle : Pool → ℕ → Bool
+idle p g = all 512 (λ s. cond (slotAt p g s) false true)
+
 -- of the words of a run, those of the pages behind its first
 abbrev pub tail : List ℕ → Option (List ℕ)
 tail [] = none

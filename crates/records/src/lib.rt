@@ -1,9 +1,12 @@
 // The records of a pool: what page words mean, how they are written, and what sound records promise. Definitions in specs/, laws in proofs/.
 ghost use mathlib.Core.Path.{_≡_};
-ghost use Prim.Native.Nat.{_*_, _≤_, _<_};
-ghost use Rattle.records.specs.Kinds.{edgeWord, largeWord, classWord, innerWord, isRunOf};
+ghost use Prim.Native.Nat.{_+_, _*_, _≤_, _<_};
+ghost use lib.Dec.{eqb};
+ghost use lib.ListN.{length};
+ghost use Rattle.records.specs.Kinds.{edgeWord, largeWord, classWord, innerWord, isRunOf, ClassPart};
 ghost use Rattle.records.specs.Pool.{kindAt};
 ghost use Rattle.records.specs.Lent.{lent, before};
+ghost use Rattle.records.specs.Slots.{slotsClear};
 ghost use Rattle.records.specs.Calls.{shaped, admitOf};
 ghost use Rattle.records.specs.Runs.{Lies, SoundRecords};
 
@@ -113,6 +116,30 @@ pub fn home_at(c: u64, bits: &[u64], words: &[u32], slots: &[u64], g: usize) -> 
         first: g,
         kind: kind_at(c, bits, words, slots, g),
     }
+}
+
+// Which part of a class run page g is, on records that are sound: 2 its first page, 3 one behind it, less where it is none. For passes over
+// all pages that go by this alone, without a branch.
+pub fn class_part(c: u64, bits: &[u64], words: &[u32], slots: &[u64], g: usize) -> u32
+    requires { ⌜ (admitOf c (lent bits words slots) ≡ 0) × (g < 512 * c) ⌝ }
+    ensures { λ r. ⌜ ClassPart r (kindAt (before bits words slots) g) ⌝ }
+{
+    words[g] / 0x40000000
+}
+
+// 0 when page g has no slot bit: its eight slot words at once, without a branch.
+pub fn any_slot(slots: &[u64], g: usize) -> u64
+    requires { ⌜ (g < 8192) × (8 * g + 8 ≤ length (now slots)) ⌝ }
+    ensures { λ r. ⌜ eqb r 0 ≡ slotsClear (now (slots .entry)) g 0 ⌝ }
+{
+    let i = 8 * g;
+    let mut acc: u64 = 0;
+    let mut j = 0;
+    while j < 8 {
+        acc = acc | slots[i + j];
+        j += 1;
+    }
+    acc
 }
 
 // ---- refusal 1, and what sound records promise

@@ -1,8 +1,14 @@
 -- The answer of a reserve, and the call behind the check, as the code makes them. Assumes nothing.
-use mathlib.Core.Path.{_≡_, sym, ap, ap₂, _∙_, subst}
+use mathlib.Core.Path.{_≡_, refl, sym, ap, ap₂, _∙_, subst}
+use mathlib.Core.Bool.{false}
+use mathlib.Core.List.{[], _∷_}
+use types.Run.{OneOf, miss}
+use denote.Enum.Declared.{tagOf}
 use Prim.Native.Nat.{ℕ, suc, _+_, _*_, _%_, _≤_, _<_}
 use native.Mathlib.Nat.{mul-le-mul}
 use native.Mathlib.Omega.{arith}
+use lib.Dec.{eqb}
+use Rattle.refusals.specs.Refusals.{noRoom}
 use Rattle.refusals.proofs.CallLaws.{refused, served}
 use Rattle.classes.specs.Classes.{size}
 use Rattle.classes.proofs.ClassLaws.{row-facts}
@@ -14,9 +20,10 @@ use Rattle.reserve.specs.declared.Plan.{Plan}
 use Rattle.reserve.specs.declared.Plan.the-variants.{Refuse, TakeSlot, NewClass, NewLarge}
 use Rattle.reserve.specs.declared.Given.the-variants.{Slot, Run}
 use Rattle.reserve.specs.declared.Reserved.{Reserved}
-use Rattle.reserve.specs.Reserve.{plan, perform, slotGiven, answer, attempt, reserveOf}
+use Rattle.reserve.specs.Reserve.{plan, isFull, perform, slotGiven, answer, attempt, serve, reserveOf}
 use Rattle.reserve.specs.Reserve as reserve
 use Rattle.reserve.specs.Plans.{PlanOk, PlanLow, PlanSize}
+use Rattle.reserve.proofs.Plan.{the-type}
 use Rattle.reserve.proofs.PlanLaws.{plan-ok}
 use Rattle.reserve.proofs.StoreForms.{slot-few}
 
@@ -48,6 +55,16 @@ size-of z e h = subst (λ (w : Plan). PlanSize w z) e h
 pub low-as : {x y : Plan} → x ≡ y → PlanLow x → PlanLow y
 low-as e h = subst PlanLow e h
 
+pub full-as : {x : Plan} {r : ℕ} → x ≡ Refuse r → eqb r noRoom ≡ isFull x
+full-as e = sym (ap isFull e)
+
+-- a plan that refuses nothing
+pub others-roomy : (x : Plan) → OneOf (1 ∷ 2 ∷ 3 ∷ []) (tagOf the-type x) → isFull x ≡ false
+others-roomy (Refuse r) o = absurd (miss (1 ∷ 2 ∷ 3 ∷ []) 0 tt o)
+others-roomy (TakeSlot g b s) o = refl
+others-roomy (NewClass g b) o = refl
+others-roomy (NewLarge g k) o = refl
+
 -- what a plan relies on keeps its numbers low
 pub ok-low : (c : ℕ) (p : Pool) → c ≤ 16 → (x : Plan) → PlanOk c p x → PlanLow x
 ok-low c p l (Refuse r) h = tt
@@ -70,6 +87,6 @@ module _ (c : ℕ) (p : Pool) (n : ℕ) (x : Plan) (e : x ≡ plan c p n) where
       ap₂ (λ (a : Reserved) (b : Pool). leaves a b) f g ∙ ap (λ (y : Plan). leaves (answer y) (perform p y)) e
 
 module _ (c : ℕ) (p : Pool) (n a : ℕ) (e : a ≡ admitOf c p) where
-  pub reserve-served : a ≡ 0 → {x : Left Reserved Pool} → x ≡ attempt c p n → x ≡ reserveOf c p n
+  pub reserve-served : a ≡ 0 → {x : Left Reserved Pool} → x ≡ serve c p n → x ≡ reserveOf c p n
   unfolding reserveOf
-  reserve-served z f = f ∙ served (admitOf c p) a (λ r. leaves (reserve.refused r) p) (attempt c p n) e z
+  reserve-served z f = f ∙ served (admitOf c p) a (λ r. leaves (reserve.refused r) p) (serve c p n) e z

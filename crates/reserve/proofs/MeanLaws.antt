@@ -1,34 +1,38 @@
 -- What a reserve does to sound records, and which slot or pages it finds. Assumes nothing.
 use mathlib.Core.Path.{_≡_, refl, sym, ap, ap₂, _∙_, subst}
-use mathlib.Core.Logic.{_≢_, by-cases}
+use mathlib.Core.Logic.{_≢_, inl, inr, by-cases}
 use mathlib.Core.Bool.{Bool, true, false, false≢true}
-use Prim.Native.Nat.{ℕ, zero, suc, _+_, _-_, _*_, _/_, _≤_, _<_}
+use mathlib.Core.List.{List}
+use Prim.Native.Nat.{ℕ, suc, _+_, _-_, _*_, _/_, _≤_, _<_}
 use native.Mathlib.Decide.{ℕ-discrete, decLt}
 use native.Mathlib.Nat.{mul-le-mul-right, mul-div-left}
 use native.Mathlib.Omega.{arith}
 use lib.Dec.{ltb}
+use lib.ListN.{length}
 use borrow.Author.Tests.{eq-eqb, lt-ltb}
 use Rattle.bitrow.specs.Row.{bitAt, isSet}
 use Rattle.classes.specs.Classes.{size, slots, pages}
 use Rattle.classes.proofs.ClassLaws.{any-row, row-facts}
-use Rattle.records.specs.declared.Kind.the-variants.{Class}
-use Rattle.records.specs.Kinds.{behind, isRunOf, spanOf}
+use Rattle.records.specs.declared.Kind.the-variants.{Free, Large, Class}
+use Rattle.records.specs.Kinds.{behind, wordsOf, isRunOf, spanOf}
 use Rattle.records.specs.Pool.{Pool, kindAt, slotAt}
-use Rattle.records.specs.Calls.{Left, leaves}
+use Rattle.records.specs.Calls.{leaves}
 use Rattle.records.specs.Runs.{InRun}
 use Rattle.records.proofs.Flags.{and-made}
+use Rattle.records.proofs.KindLaws.{length-zeros}
 use Rattle.records.proofs.RunLaws.{sound-runs}
+use Rattle.records.proofs.AdmitLaws.{shaped-lengths}
 use Rattle.blocks.specs.Blocks.{block, slotBlock, IsSlot}
-use Rattle.blocks.specs.Stores.{Good, Gains}
+use Rattle.blocks.specs.Stores.{putRun, Good, Gains}
 use Rattle.blocks.proofs.ApartLaws.{slots-fit}
-use Rattle.blocks.proofs.KeepLaws.{put-large, put-slot, put-class, good-admit}
+use Rattle.blocks.proofs.StoreLaws.{run-out, slot-kinds}
+use Rattle.blocks.proofs.StoreForms.{class-long}
+use Rattle.blocks.proofs.KeepLaws.{put-large, put-slot, put-class}
 use Rattle.reserve.specs.declared.Plan.{Plan}
 use Rattle.reserve.specs.declared.Plan.the-variants.{Refuse, TakeSlot, NewClass, NewLarge}
-use Rattle.reserve.specs.declared.Reserved.{Reserved}
-use Rattle.reserve.specs.Reserve.{lowestFree, hasSlot, slotPage, planSlot, plan, perform, answer, attempt, reserveOf}
-use Rattle.reserve.specs.Plans.{PlanOk}
+use Rattle.reserve.specs.Reserve.{lowestFree, hasSlot, slotPage, planSlot, plan, perform, answer, attempt}
+use Rattle.reserve.specs.Plans.{PagesFree, PlanOk}
 use Rattle.reserve.proofs.PlanLaws.{free-first, searched, has-free, plan-ok, plan-in}
-use Rattle.reserve.proofs.AnswerForms.{reserve-served}
 
 -- ---- what is put in
 
@@ -60,6 +64,23 @@ attempt-gains c p h n e = gains c p h (plan c p n) (plan-ok c p (h .whole) n) e
 pub attempt-kept : (c : ℕ) (p : Pool) (n r : ℕ) → attempt c p n .answer .refusal ≡ suc r → attempt c p n ≡ leaves (answer (Refuse (suc r))) p
 unfolding attempt
 attempt-kept c p n r e = kept p (plan c p n) r e
+
+-- where free pages get a run, the taken ones stay what they are
+run-kept : (c : ℕ) (p : Pool) → Good c p → (g : ℕ) (ws : List ℕ) (n : ℕ) → length ws ≡ n → PagesFree c p g n → (i : ℕ) → kindAt p i ≢ Free
+    → kindAt (putRun 1 p g ws) i ≡ kindAt p i
+run-kept c p h g ws n e k i t =
+    let shape = shaped-lengths c _ _ _ (h .shape) in let z = k .inside in
+    by-cases (decLt i g) (λ a. run-out c 1 p g ws (omega arith) shape (omega arith) i (inl a))
+    (λ a. by-cases (decLt i (g + n)) (λ b. absurd (t (k .clear i (omega arith) b)))
+    (λ b. run-out c 1 p g ws (omega arith) shape (omega arith) i (inr (omega arith))))
+
+-- a page that is taken stays what it is
+pub perform-kinds : (c : ℕ) (p : Pool) → Good c p → (x : Plan) → PlanOk c p x → (i : ℕ) → kindAt p i ≢ Free → kindAt (perform p x) i ≡ kindAt p i
+perform-kinds c p h (Refuse r) k i t = refl
+perform-kinds c p h (TakeSlot g b s) k i t = slot-kinds c 1 p g s i
+perform-kinds c p h (NewClass g b) (l, k) i t =
+    slot-kinds c 1 (putRun 1 p g (wordsOf (Class b))) g 0 i ∙ run-kept c p h g (wordsOf (Class b)) (pages b) (class-long b l) k i t
+perform-kinds c p h (NewLarge g m) k i t = run-kept c p h g (wordsOf (Large m)) (suc m) (ap suc (length-zeros m)) k i t
 
 -- ---- the lowest free slot
 
@@ -159,21 +180,3 @@ module _ (c : ℕ) (p : Pool) (b : ℕ) where
         slot-once (firstRun c p b) (lowestFree (p .slots) b (firstRun c p b)) g s false false (first-free l) x
         (omega (arith, first-lowest l g s x, low _ _ (first-free l))) in
         sym (plan-in c p b _ _ refl l refl) ∙ ap₂ (λ (i j : ℕ). TakeSlot i b j) e f
-
--- ---- the call on a good pool
-
-pub reserve-try : (c : ℕ) (p : Pool) → Good c p → (n : ℕ) → reserveOf c p n ≡ attempt c p n
-reserve-try c p h n = sym (reserve-served c p n 0 (sym (good-admit c p h)) refl refl)
-
--- by its plan
-pub reserve-by : (c : ℕ) (p : Pool) → Good c p → (n : ℕ) {x : Plan} → plan c p n ≡ x → reserveOf c p n ≡ leaves (answer x) (perform p x)
-unfolding attempt
-reserve-by c p h n e = reserve-try c p h n ∙ ap (λ (x : Plan). leaves (answer x) (perform p x)) e
-
-pub reserve-good : (c : ℕ) (p : Pool) → Good c p → (n : ℕ) → Good c (reserveOf c p n .left)
-reserve-good c p h n =
-    subst (λ (x : Left Reserved Pool). Good c (x .left)) (sym (reserve-try c p h n)) (go (attempt c p n .answer .refusal) refl)
-  where
-    go : (r : ℕ) → attempt c p n .answer .refusal ≡ r → Good c (attempt c p n .left)
-    go zero e = attempt-gains c p h n e .good
-    go (suc r) e = subst (λ (x : Left Reserved Pool). Good c (x .left)) (sym (attempt-kept c p n r e)) h

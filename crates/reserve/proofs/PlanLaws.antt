@@ -26,8 +26,8 @@ use Rattle.gaps.proofs.Answers.{found-free}
 use Rattle.blocks.specs.Blocks.{IsSlot}
 use Rattle.reserve.specs.declared.Plan.{Plan}
 use Rattle.reserve.specs.declared.Plan.the-variants.{Refuse, TakeSlot, NewClass, NewLarge}
-use Rattle.reserve.specs.Reserve.{lowestFree, hasSlot, slotPage, ifFound, slotOrRun, planSlot, planRun, pagesFor, planLarge, plan}
-use Rattle.reserve.specs.Plans.{PagesFree, PlanOk}
+use Rattle.reserve.specs.Reserve.{lowestFree, hasSlot, slotPage, ifFound, planClass, slotOrRun, planSlot, planRun, pagesFor, planLarge, plan}
+use Rattle.reserve.specs.Plans.{PagesFree, PlanOk, planPages}
 
 -- ---- the lowest free slot of a run
 
@@ -141,17 +141,21 @@ module _ (c : ℕ) (p : Pool) (s : sound c p ≡ true) where
       go (At g) e = let r : n ≡ suc (n - 1) = omega arith in subst (PagesFree c p g) r (gap-free n g a e)
       go Nothing e = omega arith
 
+  class-ok : (b : ℕ) → b < 30 → PlanOk c p (planClass c (p .bits) b)
+  unfolding planClass
+  class-ok b l = go (findPages c (p .bits) (pages b)) refl
+    where
+      go : (x : Found) → findPages c (p .bits) (pages b) ≡ x → PlanOk c p (ifFound x (λ g. NewClass g b))
+      go (At g) e = (l, gap-free (pages b) g (row-facts b l .pages-least) e)
+      go Nothing e = omega arith
+
   pub slot-ok : (b : ℕ) → b < 30 → PlanOk c p (planSlot c p b)
   unfolding planSlot slotOrRun
   slot-ok b l =
       let s′ = searched p b (512 * c) 0 in
       lt-cases (PlanOk c p) (slotPage p b 0 (512 * c)) (512 * c)
       (λ h. has-free c p b (slotPage p b 0 (512 * c)) h (s′ .here (omega arith)))
-      (λ h. go (findPages c (p .bits) (pages b)) refl)
-    where
-      go : (x : Found) → findPages c (p .bits) (pages b) ≡ x → PlanOk c p (ifFound x (λ g. NewClass g b))
-      go (At g) e = (l, gap-free (pages b) g (row-facts b l .pages-least) e)
-      go Nothing e = omega arith
+      (λ h. class-ok b l)
 
   large-ok : (n : ℕ) → 1 ≤ n → PlanOk c p (planLarge c (p .bits) n)
   unfolding planLarge
@@ -180,19 +184,18 @@ module _ (c : ℕ) (p : Pool) (b : ℕ) where
   unfolding planSlot slotOrRun
   plan-in g s e l f = ap (TakeSlot g b) f ∙ sym (ap (slotOrRun c p b) (sym e) ∙ cond-lt g (512 * c) _ _ l)
 
-  new-class : (g : ℕ) → g ≡ slotPage p b 0 (512 * c) → 512 * c ≤ g → ifFound (findPages c (p .bits) (pages b)) (λ f. NewClass f b) ≡ planSlot c p b
+  pub plan-new : (g : ℕ) (x : Plan) → g ≡ slotPage p b 0 (512 * c) → 512 * c ≤ g → x ≡ planClass c (p .bits) b → x ≡ planSlot c p b
   unfolding planSlot slotOrRun
-  new-class g e l = sym (ap (slotOrRun c p b) (sym e) ∙ cond-nlt g (512 * c) _ _ l)
+  plan-new g x e l f = f ∙ sym (ap (slotOrRun c p b) (sym e) ∙ cond-nlt g (512 * c) _ _ l)
 
-  pub plan-new : (g f n : ℕ) (x : Found) → g ≡ slotPage p b 0 (512 * c) → 512 * c ≤ g → n ≡ pages b → x ≡ findPages c (p .bits) n → x ≡ At f
-      → NewClass f b ≡ planSlot c p b
-  plan-new g f n x e l m h k =
-      ap (λ (y : Found). ifFound y (λ i. NewClass i b)) (sym k ∙ h ∙ ap (findPages c (p .bits)) m) ∙ new-class g e l
+module _ (c : ℕ) (bits : List ℕ) (b n : ℕ) (x : Found) (m : n ≡ pages b) (h : x ≡ findPages c bits n) where
+  pub class-at : (g : ℕ) → x ≡ At g → NewClass g b ≡ planClass c bits b
+  unfolding planClass
+  class-at g k = ap (λ (y : Found). ifFound y (λ i. NewClass i b)) (sym k ∙ h ∙ ap (findPages c bits) m)
 
-  pub plan-none : (g n : ℕ) (x : Found) → g ≡ slotPage p b 0 (512 * c) → 512 * c ≤ g → n ≡ pages b → x ≡ findPages c (p .bits) n → x ≡ Nothing
-      → Refuse noRoom ≡ planSlot c p b
-  plan-none g n x e l m h k =
-      ap (λ (y : Found). ifFound y (λ i. NewClass i b)) (sym k ∙ h ∙ ap (findPages c (p .bits)) m) ∙ new-class g e l
+  pub class-none : x ≡ Nothing → Refuse noRoom ≡ planClass c bits b
+  unfolding planClass
+  class-none k = ap (λ (y : Found). ifFound y (λ i. NewClass i b)) (sym k ∙ h ∙ ap (findPages c bits) m)
 
 module _ (c : ℕ) (bits : List ℕ) (n : ℕ) (x : Found) (h : x ≡ findPages c bits n) where
   pub run-at : (g : ℕ) → x ≡ At g → NewLarge g (n - 1) ≡ planRun c bits n
@@ -220,6 +223,15 @@ module _ (c : ℕ) (bits : List ℕ) (n : ℕ) where
   pub large-huge : 2093056 < n → Refuse tooBig ≡ planLarge c bits n
   unfolding planLarge
   large-huge h = sym (cond-nle n 2093056 _ _ h)
+
+module _ (c : ℕ) (bits : List ℕ) (n : ℕ) where
+  pub pages-small : (b : ℕ) (x : Plan) → n ≤ 3072 → b ≡ classFor n → x ≡ planClass c bits b → x ≡ planPages c bits n
+  unfolding planPages
+  pages-small b x l e f = f ∙ ap (planClass c bits) e ∙ sym (cond-le n 3072 _ _ l)
+
+  pub pages-large : (x : Plan) → 3072 < n → x ≡ planLarge c bits n → x ≡ planPages c bits n
+  unfolding planPages
+  pages-large x l f = f ∙ sym (cond-nle n 3072 _ _ l)
 
 pub class-few : {b n : ℕ} → b < 30 → n ≡ slots b → n ≤ 512
 class-few {b} l e = let h = row-facts b l in omega arith

@@ -1,13 +1,16 @@
 -- What a plan may rely on: the slot is free, the pages are free. Assumes nothing.
 use mathlib.Core.Path.{_≡_}
-use mathlib.Core.Bool.{false}
+use mathlib.Core.Bool.{false, cond}
+use mathlib.Core.List.{List}
 use Prim.Native.Nat.{ℕ, suc, _+_, _*_, _≤_, _<_}
-use Rattle.classes.specs.Classes.{size, pages}
+use lib.Dec.{leb}
+use Rattle.classes.specs.Classes.{size, pages, classFor}
 use Rattle.records.specs.declared.Kind.the-variants.{Free}
 use Rattle.records.specs.Pool.{Pool, kindAt}
 use Rattle.blocks.specs.Blocks.{IsSlot}
 use Rattle.reserve.specs.declared.Plan.{Plan}
 use Rattle.reserve.specs.declared.Plan.the-variants.{Refuse, TakeSlot, NewClass, NewLarge}
+use Rattle.reserve.specs.Reserve.{planClass, planLarge}
 
 -- the n pages from page g on are free
 pub record PagesFree (c : ℕ) (p : Pool) (g n : ℕ) : Type 0 where
@@ -35,3 +38,7 @@ PlanSize (Refuse r) z = Unit {0}
 PlanSize (TakeSlot g b s) z = z ≡ size b
 PlanSize (NewClass g b) z = z ≡ size b
 PlanSize (NewLarge g k) z = Unit {0}
+
+-- where no slot is free, n bytes take new pages: the plan by the page bits alone
+unfoldable pub planPages : ℕ → List ℕ → ℕ → Plan
+planPages c bits n = cond (leb n 3072) (planClass c bits (classFor n)) (planLarge c bits n)

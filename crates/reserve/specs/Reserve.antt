@@ -1,8 +1,8 @@
 -- Reserve (RULES 5.2): what is looked for, what is stored, what is answered. Assumes nothing.
-use mathlib.Core.Bool.{Bool, cond, _&&_}
+use mathlib.Core.Bool.{Bool, false, cond, _&&_}
 use mathlib.Core.List.{List}
 use Prim.Native.Nat.{ℕ, zero, suc, _+_, _-_, _*_, _/_, _%_}
-use lib.Dec.{ltb, leb}
+use lib.Dec.{eqb, ltb, leb}
 use Rattle.refusals.specs.Refusals.{unless, noRoom, tooBig}
 use Rattle.bitrow.specs.Row.{nextBit}
 use Rattle.classes.specs.Classes.{size, slots, pages, classFor}
@@ -14,6 +14,7 @@ use Rattle.gaps.specs.declared.Found.{Found}
 use Rattle.gaps.specs.declared.Found.the-variants.{At, Nothing}
 use Rattle.gaps.specs.Gaps.{findPages}
 use Rattle.blocks.specs.Stores.{putRun, putSlot}
+use Rattle.sweep.specs.Sweep.{swept}
 use Rattle.reserve.specs.declared.Plan.{Plan}
 use Rattle.reserve.specs.declared.Plan.the-variants.{Refuse, TakeSlot, NewClass, NewLarge}
 use Rattle.reserve.specs.declared.Given.the-variants.{Slot, Run, None}
@@ -34,15 +35,19 @@ unfoldable pub slotPage : Pool → ℕ → ℕ → ℕ → ℕ
 slotPage p b g zero = g
 slotPage p b g (suc n) = let later = slotPage p b (suc g) n in cond (hasSlot p b g) g later
 
--- ---- what a reserve will do
+-- ---- what a reserve will do on given records
 
 abbrev pub ifFound : Found → (ℕ → Plan) → Plan
 ifFound (At g) f = f g
 ifFound Nothing f = Refuse noRoom
 
--- the lowest free slot of the run of class b at page g; or, where g is behind the last page, a new run
+-- a new run of class b, by the page bits
+unfoldable pub planClass : ℕ → List ℕ → ℕ → Plan
+planClass c bits b = ifFound (findPages c bits (pages b)) (λ g. NewClass g b)
+
+-- the lowest free slot of the run of class b at page g; or, where g is behind the last page, one of a new run
 unfoldable pub slotOrRun : ℕ → Pool → ℕ → ℕ → Plan
-slotOrRun c p b g = cond (ltb g (512 * c)) (TakeSlot g b (lowestFree (p .slots) b g)) (ifFound (findPages c (p .bits) (pages b)) (λ f. NewClass f b))
+slotOrRun c p b g = cond (ltb g (512 * c)) (TakeSlot g b (lowestFree (p .slots) b g)) (planClass c (p .bits) b)
 
 -- a slot of class b: in a run that stands, else in a new one
 unfoldable pub planSlot : ℕ → Pool → ℕ → Plan
@@ -62,6 +67,19 @@ planLarge c bits n = cond (leb n 2093056) (planRun c bits (pagesFor n)) (Refuse 
 
 unfoldable pub plan : ℕ → Pool → ℕ → Plan
 plan c p n = cond (leb n 3072) (planSlot c p (classFor n)) (planLarge c (p .bits) n)
+
+-- ---- where it finds no room
+
+-- the plan is to refuse 4
+abbrev pub isFull : Plan → Bool
+isFull (Refuse r) = eqb r noRoom
+isFull (TakeSlot g b s) = false
+isFull (NewClass g b) = false
+isFull (NewLarge g k) = false
+
+-- the pool in which n bytes are placed: the pool without its empty runs, where it has no room as it is, and has room then
+unfoldable pub ready : ℕ → Pool → ℕ → Pool
+ready c p n = cond (isFull (plan c p n)) (cond (isFull (plan c (swept c p) n)) p (swept c p)) p
 
 -- ---- what it stores
 
@@ -96,6 +114,10 @@ answer (NewLarge g k) = runGiven g (suc k)
 unfoldable pub attempt : ℕ → Pool → ℕ → Left Reserved Pool
 attempt c p n = leaves (answer (plan c p n)) (perform p (plan c p n))
 
+-- a try, behind a sweep where that is needed and helps
+unfoldable pub serve : ℕ → Pool → ℕ → Left Reserved Pool
+serve c p n = attempt c (ready c p n) n
+
 -- the call
 unfoldable pub reserveOf : ℕ → Pool → ℕ → Left Reserved Pool
-reserveOf c p n = unless (admitOf c p) (λ r. leaves (refused r) p) (attempt c p n)
+reserveOf c p n = unless (admitOf c p) (λ r. leaves (refused r) p) (serve c p n)

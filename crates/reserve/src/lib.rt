@@ -9,8 +9,8 @@ ghost use Rattle.records.specs.declared.Kind.the-variants.{Class};
 ghost use Rattle.records.specs.Kinds.{slotsOf};
 ghost use Rattle.records.specs.Lent.{lent, before, after};
 ghost use Rattle.records.specs.Calls.{admitOf, leaves};
-ghost use Rattle.reserve.specs.Reserve.{lowestFree, hasSlot, slotPage, planSlot, planRun, planLarge, plan, perform, slotGiven, answer, attempt, refused};
-ghost use Rattle.reserve.specs.Plans.{PlanOk, PlanLow, PlanSize};
+ghost use Rattle.reserve.specs.Reserve.{lowestFree, hasSlot, slotPage, planSlot, planClass, planRun, planLarge, plan, isFull, ready, perform, slotGiven, answer, serve, refused};
+ghost use Rattle.reserve.specs.Plans.{PlanOk, PlanLow, PlanSize, planPages};
 
 // What a reserve will do: refuse with a number; take slot s of the run of class b at page g; start a run of class b at page g; start a
 // large run at page g, with k pages behind it.
@@ -93,6 +93,25 @@ fn slot_page(c: u64, bits: &[u64], words: &[u32], slots: &[u64], b: usize, n: us
     end
 }
 
+// A new run of class b.
+fn plan_class(c: u64, bits: &[u64], b: usize) -> Plan
+    requires long { ⌜ 8 * c ≤ length (now bits) ⌝ }
+    requires few { ⌜ c ≤ 16 ⌝ }
+    requires class { ⌜ b < 30 ⌝ }
+    ensures { λ r. ⌜ r ≡ planClass c (now (bits .entry)) b ⌝ }
+{
+    let row = classes::class_row(b);
+    let n = widths::wide16(row.pages);
+    match gaps::find_pages(c as usize, bits, n) {
+        gaps::Found::At(g) => {
+            return Plan::NewClass(g, b);
+        }
+        gaps::Found::Nothing => {
+            return Plan::Refuse(NO_ROOM);
+        }
+    }
+}
+
 // A slot of class b: the lowest free one of the run at page g, of n slots; or, where g is behind the last page, one of a new run.
 pub fn plan_slot(
     c: u64,
@@ -113,16 +132,7 @@ pub fn plan_slot(
         let s = lowest_free(slots, g, b, n);
         return Plan::TakeSlot(g, b, s);
     }
-    let row = classes::class_row(b);
-    let m = widths::wide16(row.pages);
-    match gaps::find_pages(c as usize, bits, m) {
-        gaps::Found::At(f) => {
-            return Plan::NewClass(f, b);
-        }
-        gaps::Found::Nothing => {
-            return Plan::Refuse(NO_ROOM);
-        }
-    }
+    plan_class(c, bits, b)
 }
 
 // A large run of n pages.
@@ -170,6 +180,60 @@ pub fn plan_for(c: u64, bits: &[u64], words: &[u32], slots: &[u64], n: u64) -> P
         return plan_slot(c, bits, words, slots, b, k, g);
     }
     plan_large(c, bits, n)
+}
+
+// Whether a plan is to refuse 4.
+pub fn is_full(x: Plan) -> bool
+    ensures { λ r. ⌜ r ≡ isFull x ⌝ }
+{
+    match x {
+        Plan::Refuse(r) => {
+            return r == NO_ROOM;
+        }
+        _ => {
+            return false;
+        }
+    }
+}
+
+// What a reserve of n bytes will do where no slot of its class is free, by the page bits alone.
+fn plan_pages(c: u64, bits: &[u64], n: u64) -> Plan
+    requires long { ⌜ 8 * c ≤ length (now bits) ⌝ }
+    requires few { ⌜ c ≤ 16 ⌝ }
+    ensures { λ r. ⌜ r ≡ planPages c (now (bits .entry)) n ⌝ }
+{
+    if n <= 3072 {
+        return plan_class(c, bits, classes::class_of(n as usize));
+    }
+    plan_large(c, bits, n)
+}
+
+// Where x, the plan for n bytes, is to refuse 4, the search is made once more without the empty runs, and these are given back if it finds
+// room. Answers the plan for what is left.
+pub fn make_room(
+    c: u64,
+    bits: &mut [u64],
+    words: &mut [u32],
+    slots: &[u64],
+    n: u64,
+    x: Plan,
+) -> Plan
+    requires sound { ⌜ admitOf c (lent bits words slots) ≡ 0 ⌝ }
+    requires plan { ⌜ x ≡ plan c (lent bits words slots) n ⌝ }
+    ensures left { λ r. ⌜ after bits words slots ≡ ready c (before bits words slots) n ⌝ }
+    ensures plan { λ r. ⌜ r ≡ plan c (ready c (before bits words slots) n) n ⌝ }
+{
+    if !is_full(x) {
+        return x;
+    }
+    let mut spare = [0; 128];
+    sweep::swept_bits(c, bits, words, slots, &mut spare);
+    let y = plan_pages(c, &spare, n);
+    if is_full(y) {
+        return y;
+    }
+    sweep::give_back(c, bits, words, slots, &spare);
+    y
 }
 
 // The stores of a plan.
@@ -289,10 +353,11 @@ pub fn reserve_sound(
     n: u64,
 ) -> Reserved
     requires { ⌜ admitOf c (lent bits words slots) ≡ 0 ⌝ }
-    ensures { λ r. ⌜ leaves r (after bits words slots) ≡ attempt c (before bits words slots) n ⌝ }
+    ensures { λ r. ⌜ leaves r (after bits words slots) ≡ serve c (before bits words slots) n ⌝ }
 {
     let x = plan_for(c, bits, words, slots, n);
-    perform_plan(c, bits, words, slots, x);
-    let bytes = plan_size(x);
-    answer_of(x, bytes)
+    let y = make_room(c, bits, words, slots, n, x);
+    perform_plan(c, bits, words, slots, y);
+    let bytes = plan_size(y);
+    answer_of(y, bytes)
 }

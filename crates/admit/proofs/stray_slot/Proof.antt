@@ -6,8 +6,9 @@ use native.Mathlib.Omega.{arith}
 use lib.Dec.{eqb}
 use Rattle.classes.specs.Classes.{slots}
 use Rattle.records.specs.Sound.{all}
-use Rattle.admit.specs.Pages.{wordClear}
-use Rattle.admit.proofs.Clear.{all-none, stray-turn, slots-done}
+use Rattle.records.specs.Slots.{wordClear}
+use Rattle.records.proofs.SlotLaws.{all-none, slots-done}
+use Rattle.admit.proofs.Clear.{stray-turn}
 use Rattle.admit.proofs.stray_slot.Statement.{statement}
 use Rattle.admit.proofs.stray_slot.Tie as tie
 

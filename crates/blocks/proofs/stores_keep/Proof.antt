@@ -1,5 +1,5 @@
 -- `blocks::stores_keep` meets its contract. Assumes nothing.
-use Rattle.blocks.proofs.KeepLaws.{put-large, give-large, put-slot, give-slot, put-class, fresh-empty}
+use Rattle.blocks.proofs.KeepLaws.{put-large, give-large, put-slot, give-slot, put-class, give-class, fresh-empty}
 use Rattle.blocks.proofs.stores_keep.Statement.{statement}
 use Rattle.blocks.proofs.stores_keep.Tie as tie
 
@@ -11,6 +11,7 @@ returns c =
       put-slot = put-slot;
       give-slot = give-slot;
       put-class = put-class;
+      give-class = give-class;
       fresh-empty = fresh-empty;
     }
 

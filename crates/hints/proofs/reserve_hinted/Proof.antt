@@ -1,9 +1,9 @@
 -- `hints::reserve_hinted` meets its contract. Assumes nothing.
-use Rattle.hints.proofs.Forms.{attempted}
+use Rattle.blocks.proofs.KeepLaws.{admit-good}
+use Rattle.hints.proofs.Forms.{served-slot}
 use Rattle.records.proofs.AdmitLaws.{admitted}
 use Rattle.reserve.proofs.PlanLaws.{class-low, plan-small, plan-large}
 use borrow.Author.Needs.{needs}
-use mathlib.Core.Path.{refl}
 use native.Mathlib.Omega.{arith}
 use Rattle.hints.proofs.reserve_hinted.Statement.{statement}
 use Rattle.hints.proofs.reserve_hinted.Tie as tie
@@ -40,9 +40,11 @@ take-slot-requires c κs =
 
 returns : tie.Need-returns
 returns c =
-    let taken = c .before .before .before .before .before .before in
-    let class = taken .before .before .before .before .before .before .before .before .before .before .before .before in (
-      attempted _ _ _ (plan-small _ _ _ _ _ (class .before .if1 .taken) (class .class-of .ensures) refl) (taken .take-slot .ensures .0),
+    let taken = c .before .before .before .before .before .before in let found = taken .before .before .before .before .before in
+    let class = found .before .before .before .before .before .before .before in
+    let start = class .before .before .before .before .before .before in (
+      served-slot _ _ (admit-good _ _ (start .pre .0)) _ _ _ (found .before .marked-page .ensures) (found .if2 .taken) (class .before .if1 .taken)
+          (class .class-of .ensures) (taken .take-slot .ensures .0),
       taken .take-slot .ensures .1,
     )
 
@@ -52,41 +54,27 @@ plan-slot-requires c κs =
     let f = e .before .before .before .before .before in let b = class-low (e .if1 .taken) (d .class-of .ensures) in
     (f .pre .0, (b, (f .pre .1 .cuts .counts _ b, c .before .before .before .before .marked-page .ensures)))
 
-carry-out-requires : tie.Need-carry-out-requires
-carry-out-requires c κs =
+carry-ready-requires : tie.Need-carry-ready-requires
+carry-ready-requires c κs =
     let d = c .before .before .before .before .before .before .before .before .before .before .before .before .before .before .before in
     let e = d .before in let f = e .before .before .before .before .before in
-    (f .pre .0, (f .pre .1, (_, plan-small _ _ _ _ _ (e .if1 .taken) (d .class-of .ensures) (c .before .before .before .before .plan-slot .ensures))))
-
-returns-2 : tie.Need-returns-2
-returns-2 c =
-    let d = c .before .before .before .before .before .before .before .before in let e = d .before .before .before .before .before in
-    let f = e .before .before .before .before .before .before .before .before .before .before .before in let g = f .before in (
-      attempted _ _ _ (plan-small _ _ _ _ _ (g .if1 .taken) (f .class-of .ensures) (e .plan-slot .ensures)) (d .carry-out .ensures .0),
-      d .carry-out .ensures .1,
-    )
+    (f .pre .0, (f .pre .1, plan-small _ _ _ _ _ (e .if1 .taken) (d .class-of .ensures) (c .before .before .before .before .plan-slot .ensures)))
 
 plan-large-requires : tie.Need-plan-large-requires
 plan-large-requires c κs =
     let d = c .before .before .before .before .before .before in let s = admitted _ _ (d .pre .0) .shape in
     let n = c .before .if1 .left in (omega arith, (omega arith, omega arith))
 
-carry-out-requires-2 : tie.Need-carry-out-requires-2
-carry-out-requires-2 c κs =
+carry-ready-requires-2 : tie.Need-carry-ready-requires-2
+carry-ready-requires-2 c κs =
     let d = c .before .before .before .before .before .before in let e = d .before .before .before .before .before in
-    (e .pre .0, (e .pre .1, (_, plan-large _ _ _ _ (d .if1 .left) (c .before .before .before .before .plan-large .ensures))))
-
-returns-3 : tie.Need-returns-3
-returns-3 c =
-    let d = c .before .before .before .before .before .before .before .before in let e = d .before .before .before .before .before in
-    let f = e .before .before in
-    (attempted _ _ _ (plan-large _ _ _ _ (f .if1 .left) (e .plan-large .ensures)) (d .carry-out2 .ensures .0), d .carry-out2 .ensures .1)
+    (e .pre .0, (e .pre .1, plan-large _ _ _ _ (d .if1 .left) (c .before .before .before .before .plan-large .ensures)))
 
 pub reserve-hinted-spec : {M : Type 1} → statement M
 reserve-hinted-spec =
     tie.close
     (tie.spec
     class-of-requires add-k mul-k slice-read-k marked-page-requires mul-if2 take-slot-requires (λ c. search needs) (λ c. search needs)
-    (λ c. search needs) (λ c. search needs) returns plan-slot-requires carry-out-requires (λ c. search needs) (λ c. search needs)
-    (λ c. search needs) (λ c. search needs) returns-2 plan-large-requires carry-out-requires-2 (λ c. search needs) (λ c. search needs)
-    (λ c. search needs) (λ c. search needs) returns-3)
+    (λ c. search needs) (λ c. search needs) returns plan-slot-requires carry-ready-requires (λ c. search needs) (λ c. search needs)
+    (λ c. search needs) (λ c. search needs) (λ c. search needs) plan-large-requires carry-ready-requires-2 (λ c. search needs)
+    (λ c. search needs) (λ c. search needs) (λ c. search needs) (λ c. search needs))

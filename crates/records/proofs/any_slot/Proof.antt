@@ -1,14 +1,14 @@
--- `admit::any_slot` meets its contract. Assumes nothing.
+-- `records::any_slot` meets its contract. Assumes nothing.
 use borrow.Author.Needs.{needs}
 use mathlib.Core.Path.{_≡_, refl}
 use Prim.Native.Nat.{_≤_, _-_, _*_}
 use native.Mathlib.Omega.{arith}
 use lib.Dec.{eqb}
 use Rattle.records.specs.Sound.{all}
-use Rattle.admit.specs.Pages.{wordClear}
-use Rattle.admit.proofs.Clear.{all-none, any-turn, slots-done}
-use Rattle.admit.proofs.any_slot.Statement.{statement}
-use Rattle.admit.proofs.any_slot.Tie as tie
+use Rattle.records.specs.Slots.{wordClear}
+use Rattle.records.proofs.SlotLaws.{all-none, any-turn, slots-done}
+use Rattle.records.proofs.any_slot.Statement.{statement}
+use Rattle.records.proofs.any_slot.Tie as tie
 
 abbrev Inv-loop : tie.InvT-loop
 Inv-loop slots g i acc₀ j₀ acc j = (j ≤ 8) × (i ≡ 8 * g) × (eqb acc 0 ≡ all j (wordClear slots g 0))
