@@ -25,8 +25,12 @@ static size_t count;
 /* Where a census lists them. */
 static uint64_t room[2 * MAX_CHUNKS * 4000];
 
-/* Blocks whose size is asked for, and the one with the highest place. */
-static uint64_t row, table, last;
+/* Blocks whose size is asked for, or that get another one, and the highest place of a block. */
+static struct lensember_reserved row, table;
+static uint64_t last;
+
+/* A large run with a free page right behind it. */
+static struct lensember_reserved open_run;
 
 static struct lensember_reserved reserve(size_t c, uint64_t size)
 {
@@ -70,15 +74,33 @@ static void take_out_last(size_t c, uint64_t given)
     blocks[i] = blocks[--count];
 }
 
-/* The row, the table and the block with the highest places. */
+static bool is_open(const struct lensember_reserved *block)
+{
+    uint64_t behind = block->place / 4096 + block->pages;
+
+    return block->kind == LENSEMBER_RUN && behind % PAGES != 0
+        && !(bits[behind / 64] >> behind % 64 & 1);
+}
+
+/* Takes the block in place of one that lies lower, where it is of this kind. */
+static void choose(struct lensember_reserved *chosen, const struct lensember_reserved *block,
+                   bool fits)
+{
+    if (fits && block->place > chosen->place)
+        *chosen = *block;
+}
+
+/* Of each kind the one with the highest place. */
 static void choose_blocks(void)
 {
-    row = table = last = 0;
+    static const struct lensember_reserved none;
+
+    row = table = open_run = none;
+    last = 0;
     for (size_t i = 0; i < count; i++) {
-        if (blocks[i].size == ROW && blocks[i].place > row)
-            row = blocks[i].place;
-        if (blocks[i].size == 8192 && blocks[i].place > table)
-            table = blocks[i].place;
+        choose(&row, &blocks[i], blocks[i].size == ROW);
+        choose(&table, &blocks[i], blocks[i].size == 8192);
+        choose(&open_run, &blocks[i], is_open(&blocks[i]));
         if (blocks[i].place > last)
             last = blocks[i].place;
     }
@@ -160,15 +182,22 @@ static void make_runs_of_class_0(size_t c, enum fill fill)
     make_by(&recipe, c);
 }
 
+/* The page of the last taken slot of such a pool. */
+static size_t lone_page;
+
+static void take_first_slot(size_t page)
+{
+    slots[SLOT_WORDS / PAGES * page] = 1;
+}
+
 /* Of the first run of slots from the middle of each chunk on, one slot is taken. */
 static void take_slot_a_chunk(size_t c)
 {
     for (size_t k = 0; k < c; k++) {
-        size_t page = PAGES * k + PAGES / 2;
-
-        while (words[page] >= UINT32_C(0xC0000000))
-            page++;
-        slots[SLOT_WORDS / PAGES * page] = 1;
+        lone_page = PAGES * k + PAGES / 2;
+        while (words[lone_page] >= UINT32_C(0xC0000000))
+            lone_page++;
+        take_first_slot(lone_page);
     }
 }
 
@@ -234,8 +263,8 @@ static void make_no_room_0(size_t c)
 
 /* ---- What is timed --------------------------------------------------------- */
 
-/* Puts a block's bits and word down or away, without a call: so a reserve and a
- * release can be timed apart. The run of a slot stands. */
+/* Puts a block's bits and word down or away, without a call: so a reserve, a
+ * release and a resize can be timed apart. The run of a slot stands. */
 static void set_slot(const struct lensember_reserved *block, bool taken)
 {
     uint64_t chunk = block->place / (PAGES * 4096);
@@ -304,12 +333,82 @@ static uint64_t release_table(size_t c)
 
 static uint64_t size_row(size_t c)
 {
-    return lensember_block_size(c, LENT(c), row).refusal;
+    return lensember_block_size(c, LENT(c), row.place).refusal;
 }
 
 static uint64_t size_table(size_t c)
 {
-    return lensember_block_size(c, LENT(c), table).refusal;
+    return lensember_block_size(c, LENT(c), table.place).refusal;
+}
+
+static struct lensember_resized resize(size_t c, const struct lensember_reserved *block,
+                                       uint64_t size)
+{
+    return lensember_resize(c, LENT(c), block->place, size);
+}
+
+static uint64_t keep_row(size_t c)
+{
+    return resize(c, &row, ROW - 7).how == LENSEMBER_KEPT ? 0 : 1;
+}
+
+static uint64_t keep_table(size_t c)
+{
+    return resize(c, &table, 8000).how == LENSEMBER_KEPT ? 0 : 1;
+}
+
+/* To so many pages, and back without a call. */
+static uint64_t recut(size_t c, const struct lensember_reserved *block, uint64_t pages)
+{
+    struct lensember_reserved recut_run = *block;
+    bool kept = resize(c, block, 4096 * pages).how == LENSEMBER_KEPT;
+
+    recut_run.pages = pages;
+    set_run(&recut_run, false);
+    set_run(block, true);
+    return kept ? 0 : 1;
+}
+
+static uint64_t grow(size_t c)
+{
+    return recut(c, &open_run, open_run.pages + 1);
+}
+
+static uint64_t shrink(size_t c)
+{
+    return recut(c, &table, 1);
+}
+
+/* Into another block, and back without a call. A row's run has one page. */
+static uint64_t move(size_t c, const struct lensember_reserved *block, uint64_t size)
+{
+    struct lensember_resized answer = resize(c, block, size);
+    struct lensember_reserved other = {.place = answer.place};
+
+    if (answer.how != LENSEMBER_MOVED)
+        return 1;
+    other.kind = size == ROW ? LENSEMBER_SLOT : LENSEMBER_RUN;
+    other.first_page = answer.place / 4096 % PAGES;
+    other.slot = answer.place % 4096 / ROW;
+    other.pages = answer.size / 4096;
+    set_block(&other, false);
+    set_block(block, true);
+    return 0;
+}
+
+static uint64_t row_to_table(size_t c)
+{
+    return move(c, &row, TABLE);
+}
+
+static uint64_t table_to_row(size_t c)
+{
+    return move(c, &table, ROW);
+}
+
+static uint64_t resize_nothing(size_t c)
+{
+    return lensember_resize(c, LENT(c), 1, ROW).refusal == LENSEMBER_NO_BLOCK ? 0 : 1;
 }
 
 /* The first block of the pool. */
@@ -379,6 +478,26 @@ static uint64_t reserve_any_row(size_t c)
     return reserve_and_put_back(c, ROW, right.row);
 }
 
+static struct lensember_resized resize_lone_slot(size_t c, uint64_t size)
+{
+    return lensember_resize(c, LENT(c), UINT64_C(4096) * lone_page, size);
+}
+
+/* Only a sweep makes room for so many pages. */
+static uint64_t move_by_sweep(size_t c)
+{
+    bool moved = resize_lone_slot(c, 800000).how == LENSEMBER_MOVED;
+
+    take_first_slot(lone_page);
+    put_back(c);
+    return moved ? 0 : 1;
+}
+
+static uint64_t move_in_vain(size_t c)
+{
+    return resize_lone_slot(c, LARGEST_TABLE).refusal == LENSEMBER_NO_ROOM ? 0 : 1;
+}
+
 /* ---- What is printed -------------------------------------------------------- */
 
 enum { COLUMNS = 4, POOLS = 8 };
@@ -406,6 +525,12 @@ static const struct sheet sheets[] = {
     {{"census", "totals", "check", "check again"},
      {call_or, list_blocks, total, check, check},
      FRESH_HALF_FULL},
+    {{"row kept", "table kept", "run grown", "table shrunk"},
+     {call_or, keep_row, keep_table, grow, shrink},
+     FRESH_HALF_FULL},
+    {{"row to table", "table to row", "no block", "check"},
+     {call_or, row_to_table, table_to_row, resize_nothing, check},
+     FRESH_HALF_FULL},
     {{"sweep", "reserve 511", "reserve row", "put back"},
      {call_or, sweep, reserve_largest, reserve_any_row, put_back},
      {{"dropped", make_dropped},
@@ -416,6 +541,9 @@ static const struct sheet sheets[] = {
       {"some empty", make_some_empty},
       {"no room", make_no_room},
       {"of class 0", make_no_room_0}}},
+    {{"moved by sweep", "refused 4", "reserve 511", "put back"},
+     {call_or, move_by_sweep, move_in_vain, reserve_largest, put_back},
+     {{"split", make_split}, {"of class 0", make_split_0}}},
 };
 
 static void measure(const struct sheet *sheet, const struct pool_kind *pool, size_t c)
@@ -450,10 +578,11 @@ int main(void)
     for (size_t i = 0; i < sizeof sheets / sizeof sheets[0]; i++)
         measure_sheet(&sheets[i]);
     printf("microseconds a chunk, then the multiple of the OR\n"
-           "the last sheet: a full pool of which all was given back; pools of empty runs, of 30\n"
-           "classes in any order or of class 0; the same with one taken slot in each chunk, so\n"
-           "that 511 pages are refused after a search in vain; a third of the runs empty; full\n"
-           "pools, where both reserves are refused. Where a call changed something its time has\n"
-           "what puts that back, which the last column has alone\n");
+           "sweeps: a full pool of which all was given back; pools of empty runs, of 30 classes\n"
+           "in any order or of class 0; the same with one taken slot in each chunk, so that 511\n"
+           "pages are refused after a search in vain; a third of the runs empty; full pools,\n"
+           "where both reserves are refused. The last sheet: that slot gets 800,000 bytes, or\n"
+           "511 pages. Where a call changed something its time has what puts that back, which\n"
+           "the last column has alone\n");
     return 0;
 }

@@ -11,11 +11,13 @@
 #include <stdint.h>
 
 /* The calls of a log: an empty pool of c chunks, 1 to 16; a reserve, which
- * answers its refusal and the place; a release. */
+ * answers its refusal and the place; a release; a resize, which may change the
+ * place. */
 void plain_fresh(unsigned c);
 void plain_tune(int tuned); /* from the next fresh pool on */
 unsigned plain_reserve(uint64_t size, uint64_t *place);
 unsigned plain_release(uint64_t place);
+unsigned plain_resize(uint64_t *place, uint64_t size);
 
 /* Replays a log on a pool of c chunks, 1 to 16. Answers the refusal: 0, 8 or 9. */
 unsigned plain_replay(unsigned c, const uint8_t *log, size_t length);

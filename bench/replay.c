@@ -3,7 +3,8 @@
  * written in C without a proof (plain.h), and how long does a pair of a
  * release and a reserve in it take, against the allocators that this machine
  * has: PHP's own, where its library is installed, and malloc? All are timed in
- * turn in one run; of each the shortest time counts.
+ * turn in one run; of each the shortest time counts. Of some logs the pairs are
+ * resizes, which no other allocator gets.
  */
 #define _POSIX_C_SOURCE 199309L /* clock_gettime */
 
@@ -25,15 +26,18 @@ struct kind {
     unsigned live_a_chunk; /* blocks reserved before the pairs; 0: until the pool is full */
     uint64_t low, high;    /* the sizes, from low to high */
     int holes;             /* whether every second block is given back before the pairs */
+    int resizes;           /* whether a resize of a block stands in place of each pair */
 };
 
 static const struct kind kinds[] = {
-    {"fresh, rows of 1 to 64 bytes", 100, 1, 64, 0},
-    {"fresh, rows of 1 to 3,072 bytes", 100, 1, 3072, 0},
-    {"half full, rows of 1 to 3,072 bytes", 0, 1, 3072, 1},
-    {"half full, rows and tables to 40,000", 0, 1, 40000, 1},
-    {"full, rows of 1 to 3,072 bytes", 0, 1, 3072, 0},
-    {"full, rows and tables to 40,000", 0, 1, 40000, 0},
+    {"fresh, rows of 1 to 64 bytes", 100, 1, 64, 0, 0},
+    {"fresh, rows of 1 to 3,072 bytes", 100, 1, 3072, 0, 0},
+    {"half full, rows of 1 to 3,072 bytes", 0, 1, 3072, 1, 0},
+    {"half full, rows and tables to 40,000", 0, 1, 40000, 1, 0},
+    {"full, rows of 1 to 3,072 bytes", 0, 1, 3072, 0, 0},
+    {"full, rows and tables to 40,000", 0, 1, 40000, 0, 0},
+    {"fresh, rows of 1 to 64, resized", 100, 1, 64, 0, 1},
+    {"half full, to 40,000, resized", 0, 1, 40000, 1, 1},
 };
 
 static uint64_t bits[MAX_CHUNKS * BIT_WORDS];
@@ -42,6 +46,7 @@ static uint64_t slots[MAX_CHUNKS * SLOT_WORDS];
 
 static uint8_t log_bytes[4 + 7 * (2 * MOST_LIVE + 2 * PAIRS) + 3];
 static size_t log_length;
+static size_t log_fields;   /* without start and end */
 static size_t before_pairs; /* the length of the log that ends before the pairs */
 
 static uint64_t place_of[MOST_LIVE];
@@ -73,22 +78,23 @@ static uint64_t draw(uint64_t low, uint64_t high)
 
 /* ---- The log ------------------------------------------------------------- */
 
-static void write_field(unsigned tag, uint64_t number)
+static void write_field(unsigned tag, unsigned length, uint64_t number)
 {
     uint8_t *at = log_bytes + log_length;
 
     at[0] = (uint8_t)tag;
     at[1] = 0;
-    at[2] = 4;
-    for (unsigned i = 0; i < 4; i++)
-        at[3 + i] = (uint8_t)(number >> (24 - 8 * i));
-    log_length += 7;
+    at[2] = (uint8_t)length;
+    for (unsigned i = 0; i < length; i++)
+        at[3 + i] = (uint8_t)(number >> 8 * (length - 1 - i));
+    log_length += 3 + length;
+    log_fields++;
 }
 
 /* A reserve; whether it was served. */
 static int put(uint64_t size)
 {
-    write_field(2, size);
+    write_field(2, 4, size);
     if (plain_reserve(size, &place_of[live]) != 0)
         return 0;
     size_of[live++] = size;
@@ -97,7 +103,7 @@ static int put(uint64_t size)
 
 static void take_out(size_t i)
 {
-    write_field(3, place_of[i]);
+    write_field(3, 4, place_of[i]);
     plain_release(place_of[i]);
     live--;
     place_of[i] = place_of[live];
@@ -133,6 +139,16 @@ static void write_pair(const struct kind *kind, struct pair *pair)
     }
 }
 
+/* One that finds no room is refused, and stands in the log all the same. */
+static void write_resize(const struct kind *kind)
+{
+    size_t i = draw(0, live - 1);
+    uint64_t size = draw(kind->low, kind->high);
+
+    write_field(8, 8, place_of[i] << 32 | size);
+    plain_resize(&place_of[i], size);
+}
+
 static void write_log(const struct kind *kind, size_t c)
 {
     static const uint8_t start[4] = {1, 0, 1, 0};
@@ -143,12 +159,17 @@ static void write_log(const struct kind *kind, size_t c)
     memcpy(log_bytes, start, sizeof start);
     log_bytes[3] = (uint8_t)c;
     log_length = sizeof start;
+    log_fields = 0;
     fill(kind, c);
     before_pairs = log_length;
     live_before_pairs = live;
     memcpy(sizes_before_pairs, size_of, live * sizeof size_of[0]);
-    for (size_t i = 0; i < PAIRS; i++)
-        write_pair(kind, &pairs[i]);
+    for (size_t i = 0; i < PAIRS; i++) {
+        if (kind->resizes)
+            write_resize(kind);
+        else
+            write_pair(kind, &pairs[i]);
+    }
     end_log();
 }
 
@@ -207,7 +228,26 @@ struct times {
     double php, malloc;           /* the pairs */
 };
 
-static struct times time_all(size_t c)
+/* Allocators that get the pairs; a resize of theirs would copy bytes too. */
+static void time_others(struct times *best)
+{
+    double start;
+
+    if (have_php()) {
+        hold_php(sizes_before_pairs, live_before_pairs);
+        start = seconds_now();
+        run_php(pairs, PAIRS, live_before_pairs);
+        keep_shortest(&best->php, start);
+        drop_php(live_before_pairs);
+    }
+    hold_malloc(sizes_before_pairs, live_before_pairs);
+    start = seconds_now();
+    run_malloc(pairs, PAIRS, live_before_pairs);
+    keep_shortest(&best->malloc, start);
+    drop_malloc(live_before_pairs);
+}
+
+static struct times time_all(const struct kind *kind, size_t c)
 {
     struct times best = {1e9, 1e9, 1e9, 1e9, 1e9, 1e9};
 
@@ -227,20 +267,19 @@ static struct times time_all(size_t c)
         start = seconds_now();
         plain(c, log_length);
         keep_shortest(&best.tuned, start);
-        if (have_php()) {
-            hold_php(sizes_before_pairs, live_before_pairs);
-            start = seconds_now();
-            run_php(pairs, PAIRS, live_before_pairs);
-            keep_shortest(&best.php, start);
-            drop_php(live_before_pairs);
-        }
-        hold_malloc(sizes_before_pairs, live_before_pairs);
-        start = seconds_now();
-        run_malloc(pairs, PAIRS, live_before_pairs);
-        keep_shortest(&best.malloc, start);
-        drop_malloc(live_before_pairs);
+        if (!kind->resizes)
+            time_others(&best);
     }
     return best;
+}
+
+/* Seconds of a pair, and how many of these the replay's takes. */
+static void print_other(double seconds, double pair, int timed)
+{
+    if (timed)
+        printf(" %6.1f %5.2f", seconds * 1e9, pair / seconds);
+    else
+        printf(" %6s %5s", "-", "-");
 }
 
 static void print_row(const struct kind *kind, size_t c)
@@ -250,16 +289,14 @@ static void print_row(const struct kind *kind, size_t c)
 
     write_log(kind, c);
     compare(c);
-    t = time_all(c);
-    fields = (double)(log_length - 7) / 7;
+    t = time_all(kind, c);
+    fields = (double)log_fields;
     pair = (t.replay - t.replay_before) / PAIRS;
     printf("%-36s %2u %6.1f %7.1f %5.2f %6.1f %5.2f %7.1f", kind->name, (unsigned)c, t.replay / fields * 1e9,
            t.plain / fields * 1e9, t.replay / t.plain, t.tuned / fields * 1e9, t.replay / t.tuned, pair * 1e9);
-    if (have_php())
-        printf(" %6.1f %5.2f", t.php / PAIRS * 1e9, pair / (t.php / PAIRS));
-    else
-        printf(" %6s %5s", "-", "-");
-    printf(" %6.1f %5.2f\n", t.malloc / PAIRS * 1e9, pair / (t.malloc / PAIRS));
+    print_other(t.php / PAIRS, pair, have_php() && !kind->resizes);
+    print_other(t.malloc / PAIRS, pair, !kind->resizes);
+    printf("\n");
 }
 
 int main(void)
@@ -269,6 +306,7 @@ int main(void)
         print_row(&kinds[k], 1);
         print_row(&kinds[k], MAX_CHUNKS);
     }
-    printf("nanoseconds a field, then a pair of a release and a reserve; tuned is the plain pool with side tables\n");
+    printf("nanoseconds a field, then a pair of a release and a reserve, or a resize; tuned is the\n"
+           "plain pool with side tables\n");
     return 0;
 }

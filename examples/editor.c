@@ -4,8 +4,9 @@
  * whose bytes are the program's own. A band row is a block of 24 bytes; a table
  * is a block that holds the places of its rows.
  *
- * The editor enters a table, copies it to the other ear, trims it, drops it,
- * lists what is left, survives a damaged record, sweeps, and says what it did.
+ * The editor enters a table, copies it to the other ear, trims and extends it,
+ * drops it, lists what is left, survives a damaged record, sweeps, and says what
+ * it did.
  */
 #include "lensember.h"
 
@@ -82,7 +83,7 @@ static uint64_t size_of(const struct ear *ear, uint64_t place)
     return block.size;
 }
 
-/* Where the block's bytes are. They stay there until it is released. */
+/* Where the block's bytes are. They stay there until it is released or moved. */
 static uint8_t *bytes_of(struct ear *ear, uint64_t place)
 {
     struct lensember_part part = lensember_bytes(CHUNKS, LENT(ear), ear->number, place,
@@ -90,6 +91,21 @@ static uint8_t *bytes_of(struct ear *ear, uint64_t place)
 
     must(part.refusal, "bytes");
     return ear->arena + part.start;
+}
+
+/*
+ * Gives the block another size and answers its place. Where that is another one
+ * the bytes are copied at once: what is reserved next may lie over the old ones.
+ */
+static uint64_t resize(struct ear *ear, uint64_t place, uint64_t size)
+{
+    const uint8_t *old = bytes_of(ear, place);
+    struct lensember_resized block = lensember_resize(CHUNKS, LENT(ear), place, size);
+
+    must(block.refusal, "resize");
+    if (block.how == LENSEMBER_MOVED)
+        memcpy(bytes_of(ear, block.place), old, block.copy);
+    return block.place;
 }
 
 /* ---- Rows ------------------------------------------------------------------ */
@@ -148,13 +164,26 @@ static struct row table_row(const struct table *table, unsigned number)
     return get_row(table->ear, row_place(table, number));
 }
 
-/* The rows are reserved, their bytes not yet written. */
+/* The rows from this one on are reserved, their bytes not yet written. */
+static void reserve_rows(const struct table *table, unsigned from)
+{
+    for (unsigned i = from; i < table->rows; i++)
+        set_row_place(table, i, reserve(table->ear, sizeof(struct row)));
+}
+
+static void measure_rows(const struct table *table, unsigned from)
+{
+    for (unsigned i = from; i < table->rows; i++) {
+        struct row row = measured(i);
+        put_row(table->ear, row_place(table, i), &row);
+    }
+}
+
 static struct table table_of(struct ear *ear, unsigned rows)
 {
     struct table table = {ear, reserve(ear, rows * sizeof(uint64_t)), rows};
 
-    for (unsigned i = 0; i < rows; i++)
-        set_row_place(&table, i, reserve(ear, sizeof(struct row)));
+    reserve_rows(&table, 0);
     return table;
 }
 
@@ -168,10 +197,7 @@ static struct table enter(struct ear *ear, unsigned bands)
 {
     struct table table = table_of(ear, bands);
 
-    for (unsigned i = 0; i < bands; i++) {
-        struct row row = measured(i);
-        put_row(ear, row_place(&table, i), &row);
-    }
+    measure_rows(&table, 0);
     tell(&table, "entered");
     return table;
 }
@@ -188,20 +214,31 @@ static struct table copy(const struct table *from, struct ear *to)
     return table;
 }
 
-/* Drops the last rows and moves the places of the others to a smaller block. */
+/* The block that holds the places gets the size for so many rows, where it lies or elsewhere. */
+static void resize_table(struct table *table, unsigned rows)
+{
+    table->place = resize(table->ear, table->place, rows * sizeof(uint64_t));
+    table->rows = rows;
+}
+
+/* Drops the last rows. */
 static void trim(struct table *table, unsigned rows)
 {
-    size_t kept = rows * sizeof(uint64_t);
-    uint64_t smaller;
-
     for (unsigned i = rows; i < table->rows; i++)
         release(table->ear, row_place(table, i));
-    smaller = reserve(table->ear, kept);
-    memcpy(bytes_of(table->ear, smaller), bytes_of(table->ear, table->place), kept);
-    release(table->ear, table->place);
-    table->place = smaller;
-    table->rows = rows;
+    resize_table(table, rows);
     tell(table, "trimmed");
+}
+
+/* Enters more rows behind the others. */
+static void extend(struct table *table, unsigned rows)
+{
+    unsigned from = table->rows;
+
+    resize_table(table, rows);
+    reserve_rows(table, from);
+    measure_rows(table, from);
+    tell(table, "extended");
 }
 
 static void drop(const struct table *table)
@@ -296,6 +333,8 @@ static void make_mistakes(struct ear *ear, uint64_t dropped, uint64_t live)
            lensember_release(CHUNKS, LENT(ear), live + sizeof(struct row) / 2));
     printf("%s ear: reserving 3000000 bytes is refused %" PRIu64 "\n", ear->name,
            lensember_reserve(CHUNKS, LENT(ear), 3000000).refusal);
+    printf("%s ear: resizing a dropped row is refused %" PRIu64 "\n", ear->name,
+           lensember_resize(CHUNKS, LENT(ear), dropped, 2 * sizeof(struct row)).refusal);
 }
 
 /* Every call on a pool looks at all its records first. */
@@ -304,12 +343,13 @@ static void try_all_calls(struct ear *ear, uint64_t live)
     uint64_t room[2];
 
     printf("%s ear: check %" PRIu64 ", reserve %" PRIu64 ", release %" PRIu64
-           ", sweep %" PRIu64 ", block size %" PRIu64 ", next %" PRIu64 ", census %" PRIu64
-           ", totals %" PRIu64 ", bytes %" PRIu64 "\n",
+           ", resize %" PRIu64 ", sweep %" PRIu64 ", block size %" PRIu64 ", next %" PRIu64
+           ", census %" PRIu64 ", totals %" PRIu64 ", bytes %" PRIu64 "\n",
            ear->name,
            lensember_check(CHUNKS, LENT(ear)),
            lensember_reserve(CHUNKS, LENT(ear), sizeof(struct row)).refusal,
            lensember_release(CHUNKS, LENT(ear), live),
+           lensember_resize(CHUNKS, LENT(ear), live, 2 * sizeof(struct row)).refusal,
            lensember_sweep(CHUNKS, LENT(ear)).refusal,
            lensember_block_size(CHUNKS, LENT(ear), live).refusal,
            lensember_next(CHUNKS, LENT(ear), 0).refusal,
@@ -347,8 +387,11 @@ int main(void)
 
     day = enter(&left, 22);
     other = copy(&day, &right);
-    long_one = enter(&left, 600); /* its places take a run of pages */
-    trim(&long_one, 6);
+    long_one = enter(&left, 600); /* its places take a run of two pages */
+    trim(&long_one, 400);         /* which gives one back, */
+    extend(&long_one, 1000);      /* gets it again, */
+    extend(&long_one, 1100);      /* moves to where there are three, */
+    trim(&long_one, 6);           /* and ends as a slot */
     trim(&other, 8);
     gone = row_place(&day, 0);
     drop(&day);

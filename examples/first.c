@@ -1,7 +1,7 @@
 /*
  * A first look at Lensember: lend the buffers of one chunk, make a fresh pool,
- * reserve a row and a table, list them, give the row back, sweep, check the
- * records, damage one bit, and see that the check notices.
+ * reserve a row and a table, let the table grow, list them, give the row back,
+ * sweep, check the records, damage one bit, and see that the check notices.
  */
 #include "lensember.h"
 
@@ -24,6 +24,16 @@ static struct lensember_reserved reserve(const char *what, uint64_t size)
     printf("%s of %" PRIu64 " bytes lies at %" PRIu64 ", size %" PRIu64 "\n",
            what, size, block.place, block.size);
     return block;
+}
+
+/* The pages behind the table are free, so it stays where it is, and no byte is to be copied. */
+static int grow(uint64_t place, uint64_t size)
+{
+    struct lensember_resized table = lensember_resize(1, LENT, place, size);
+
+    printf("the table, now of %" PRIu64 " bytes, lies at %" PRIu64 ", size %" PRIu64 "\n", size,
+           table.place, table.size);
+    return table.refusal == LENSEMBER_OK && table.how == LENSEMBER_KEPT && table.copy == 0;
 }
 
 static int total(void)
@@ -109,7 +119,7 @@ int main(void)
 {
     uint64_t fresh, sound, damaged;
     struct lensember_reserved row, table;
-    int read, released, swept;
+    int grown, read, released, swept;
 
     printf("a pool of 1 chunk: %d bytes in %d pages\n",
            LENSEMBER_CHUNK_BYTES, LENSEMBER_CHUNK_PAGES);
@@ -119,6 +129,7 @@ int main(void)
 
     row = reserve("a row", 24);
     table = reserve("a table", 5000);
+    grown = grow(table.place, 9000);
     read = total() && walk() && list();
     released = release_twice(row.place);
     swept = sweep() && total();
@@ -129,6 +140,6 @@ int main(void)
     damaged = check();
 
     return fresh == LENSEMBER_OK && row.kind == LENSEMBER_SLOT
-            && table.kind == LENSEMBER_RUN && read && released && swept
+            && table.kind == LENSEMBER_RUN && grown && read && released && swept
             && sound == LENSEMBER_OK && damaged == LENSEMBER_DAMAGED ? 0 : 1;
 }

@@ -14,6 +14,7 @@
  *   k             check
  *   r N           reserve
  *   f Q           release
+ *   z Q N         resize
  *   w             sweep
  *   b Q           block size
  *   n Q           next
@@ -35,6 +36,7 @@
 #include "groups.h"
 #include "logs.h"
 #include "readers.h"
+#include "resizes.h"
 #include "twin.h"
 
 #include <inttypes.h>
@@ -185,6 +187,7 @@ static void expect_all_refuse(struct twin *twin, uint64_t number)
     expect(library_check(r) == 2, "check");
     expect(library_reserve(r, number).refusal == 2, "reserve");
     expect(library_release(r, live) == 2, "release");
+    expect(library_resize(r, live, number).refusal == 2, "resize");
     expect(library_sweep(r).refusal == 2, "sweep");
     expect(library_block_size(r, live).refusal == 2, "block size");
     expect(library_next(r, number).refusal == 2, "next");
@@ -260,7 +263,7 @@ static bool print(struct twin *twin, const uint8_t *log, size_t nlog, size_t nou
     uint8_t *out = lend_out(nout);
     struct lensember_printed answer =
         library_lines(&twin->lent, lend_log(log, nlog), nlog, out, nout);
-    struct log_outcome right = {7, 0, false, 0, {0}, {0}, 0, 0};
+    struct log_outcome right = {.refusal = 7};
 
     right_lines.length = 0;
     if (enough)
@@ -329,6 +332,7 @@ static void try_shape(uint64_t c, struct lengths n)
                             start, sizeof start).refusal == 1, "replay");
     expect(lensember_lines(c, r.bits, n.bits, r.words, n.words, r.slots, n.slots,
                            start, sizeof start, out, sizeof out).refusal == 1, "lines");
+    expect_resizes_refuse(1, c, &r, n);
     expect_readers_refuse(1, c, &r, n);
     expect(is_unchanged(bits) && is_unchanged(words) && is_unchanged(slots), "buffers");
 }
@@ -444,6 +448,10 @@ static void call_sound(struct input *input, struct twin *twin, uint8_t letter)
         break;
     case 'f':
         twin_release(twin, take_number(input));
+        break;
+    case 'z':
+        number = take_number(input);
+        twin_resize(twin, number, take_number(input));
         break;
     case 'w':
         twin_sweep(twin);

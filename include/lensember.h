@@ -65,6 +65,10 @@
 #define LENSEMBER_SLOT 1    /* a slot of a size class, for 0 to 3,072 bytes */
 #define LENSEMBER_RUN 2     /* a run of pages, for 3,073 to 2,093,056 bytes */
 
+/* How a block got another size; LENSEMBER_NOTHING where that is refused. */
+#define LENSEMBER_KEPT 1  /* the block lies where it did */
+#define LENSEMBER_MOVED 2 /* another block has taken its place */
+
 /* Ears. Each has a pool and an arena of its own. */
 #define LENSEMBER_LEFT 0
 #define LENSEMBER_RIGHT 1
@@ -108,8 +112,9 @@ uint64_t lensember_fresh(uint64_t c,
  *
  * A place is a byte offset in the pool: chunk times 2,097,152, plus page times
  * 4,096, plus slot times the slot size. The bytes from `place` on, `size` of
- * them, are the caller's until the block is released. The library never reads
- * or writes them; it does not even know where in memory the pool lies.
+ * them, are the caller's until the block is released or resized. The library
+ * never reads or writes them; it does not even know where in memory the pool
+ * lies.
  */
 struct lensember_reserved {
     uint64_t refusal;      /* LENSEMBER_OK, or the number of the refusal */
@@ -175,6 +180,52 @@ uint64_t lensember_release(uint64_t c,
                            uint64_t *slots, size_t nslots,
                            uint64_t place);
 
+/*
+ * The answer to resize. On a refusal all but `refusal` are 0. A block that was
+ * kept has the place that was given, and no byte to copy.
+ */
+struct lensember_resized {
+    uint64_t refusal; /* LENSEMBER_OK, or the number of the refusal */
+    uint64_t place;   /* where the block starts now */
+    uint64_t size;    /* bytes that it has now: those asked for, or a few more */
+    uint64_t how;     /* LENSEMBER_NOTHING, LENSEMBER_KEPT or LENSEMBER_MOVED */
+    uint64_t copy;    /* of a moved block: how many bytes the caller copies */
+};
+
+/*
+ * Gives the block that starts at `place` at least `size` bytes, more or fewer
+ * than it has; any numbers may be given.
+ *
+ * A block is kept where it can be: a slot whose class is the one for that size;
+ * a page run, for 3,073 bytes or more, that has as many pages as are needed, or
+ * more, of which the last are free for any request then, or fewer, if the pages
+ * right behind it are free and in its chunk. No sweep is made for these.
+ *
+ * Any other block is moved: a block of that size is reserved, as by a reserve,
+ * which may sweep, while the old one is live, and then the old one is released.
+ * The bytes are the caller's to copy, `copy` of them from the old place to the
+ * new one: the old block's or those asked for, whichever are fewer. The two
+ * blocks share none. Copy right after the call: the next one may hand out the
+ * old block's bytes again.
+ *
+ *   LENSEMBER_OK         the block has the size, and the records say so
+ *   LENSEMBER_SHAPE      c is not 1 to 16, or a buffer is not of the exact length
+ *   LENSEMBER_DAMAGED    the lengths are right and the contents are damaged
+ *   LENSEMBER_NO_BLOCK   no block or slot starts there, as for release
+ *   LENSEMBER_FREE_SLOT  a slot starts there and is free
+ *   LENSEMBER_TOO_BIG    size is above 2,093,056
+ *   LENSEMBER_NO_ROOM    the block cannot be kept, and beside it there is no room
+ *                        for another one, as for reserve
+ *
+ * The refusals are checked in this order. A refused call changes nothing: the
+ * block is live, and has the size that it had.
+ */
+struct lensember_resized lensember_resize(uint64_t c,
+                                          uint64_t *bits, size_t nbits,
+                                          uint32_t *words, size_t nwords,
+                                          uint64_t *slots, size_t nslots,
+                                          uint64_t place, uint64_t size);
+
 /* The answer to a sweep. On a refusal there are no pages. */
 struct lensember_swept {
     uint64_t refusal; /* LENSEMBER_OK, or the number of the refusal */
@@ -187,8 +238,8 @@ struct lensember_swept {
  * same before and after. That there is no such run is no refusal; then no page
  * is gained and nothing is changed.
  *
- * There is no need to sweep before a reserve, which does it where it would be
- * refused by LENSEMBER_NO_ROOM otherwise.
+ * There is no need to sweep before a reserve or a resize, which do it where they
+ * would be refused by LENSEMBER_NO_ROOM otherwise.
  *
  *   LENSEMBER_OK       no empty run is left, and so many pages were gained
  *   LENSEMBER_SHAPE    c is not 1 to 16, or a buffer is not of the exact length
@@ -369,10 +420,11 @@ struct lensember_replayed {
  *   tag 2  reserve  length 4  size
  *   tag 3  release  length 4  place
  *   tag 4  end      length 0
+ *   tag 8  resize   length 8  place, then size, four bytes each
  *
  * Start comes first and once, end comes last. A start makes a fresh pool, so the
- * records may hold anything before it; its count must be c. A reserve or release
- * is that call: a reserve may sweep, and one that is refused does not end the
+ * records may hold anything before it; its count must be c. A reserve, release or
+ * resize is that call, with its sweep, and one that is refused does not end the
  * replay. The log is only read.
  *
  *   LENSEMBER_OK         the whole log was replayed
@@ -412,12 +464,15 @@ struct lensember_printed {
  *   pool 1
  *   reserve 24 at 4096 size 24
  *   reserve 3000000 refused 3
- *   release 4096 ok
+ *   resize 4096 20 at 4096 size 24 kept
+ *   resize 4096 5000 at 8192 size 8192 moved
+ *   resize 4096 10 refused 6
+ *   release 8192 ok
  *   release 4100 refused 5
  *   live 0 free pages 510
  *
- * Without its end field that log is cut at byte 32, and the last line reads
- * `log refused 8 at 32`.
+ * Without its end field that log is cut at byte 65, and the last line reads
+ * `log refused 8 at 65`.
  *
  * The text starts at out[0]; the bytes of the room behind it are unchanged. The
  * room has nout bytes, and is the caller's before and after the call.

@@ -7,6 +7,7 @@
  *   - the place of every run of pages, large runs and runs of slots alike, while
  *     blocks are reserved and released at random;
  *   - the place of every slot of a class of which none was released yet;
+ *   - whether a block that gets another size is kept or moved, and its place then;
  *   - the pages that a sweep gains after drops, as long as no slot was taken again.
  *
  * Where the rules differ nothing is compared:
@@ -16,7 +17,9 @@
  *     lie alike all the same;
  *   - without room PHP takes a new chunk, and a pool sweeps or refuses with 4. A
  *     large run that got a chunk of its own this way counts as refused and is given
- *     back; a slot is not asked for then, since its run would stay;
+ *     back; a slot is not asked for then, since its run would stay, and no resize is;
+ *   - a slot that gets just the size of the class below stays with PHP, and is moved
+ *     by a pool, so no resize is to such a size;
  *   - PHP sweeps at its memory limit only. By then other runs are empty than the
  *     pool's, since other slots were taken again. So what a sweep gave the pool is
  *     undone and counts as refused; but after drops PHP is told to sweep too;
@@ -46,6 +49,7 @@ typedef struct _zend_mm_heap zend_mm_heap;
 zend_mm_heap *zend_mm_startup(void);
 void zend_mm_shutdown(zend_mm_heap *heap, bool full, bool silent);
 void *_zend_mm_alloc(zend_mm_heap *heap, size_t size);
+void *_zend_mm_realloc(zend_mm_heap *heap, void *block, size_t size);
 void _zend_mm_free(zend_mm_heap *heap, void *block);
 size_t _zend_mm_block_size(zend_mm_heap *heap, void *block);
 size_t zend_mm_gc(zend_mm_heap *heap); /* a sweep: the bytes gained */
@@ -195,6 +199,24 @@ static struct lensember_reserved reserve_ours(struct beside *beside, uint64_t si
 }
 
 /* A slot's place is compared where the run is new, or none was ever released. */
+static void compare_slots(struct beside *beside, uint64_t size, uint64_t place, void *block,
+                          unsigned b)
+{
+    if (beside->free_slots[b] == 0 || !beside->released[b])
+        compare_places(beside, size, place, block);
+    if (beside->free_slots[b] == 0)
+        beside->free_slots[b] = size_classes[b].slots;
+    beside->free_slots[b]--;
+}
+
+static void note_release(struct beside *beside, unsigned class_number)
+{
+    if (class_number == CLASSES)
+        return;
+    beside->free_slots[class_number]++;
+    beside->released[class_number] = true;
+}
+
 static void reserve_slot(struct beside *beside, uint64_t size)
 {
     struct lensember_reserved ours = reserve_ours(beside, size);
@@ -208,11 +230,7 @@ static void reserve_slot(struct beside *beside, uint64_t size)
     theirs = _zend_mm_alloc(beside->heap, size);
     meet_chunk(beside, theirs);
     compare_sizes(beside, size, ours.size, theirs);
-    if (beside->free_slots[b] == 0 || !beside->released[b])
-        compare_places(beside, size, ours.place, theirs);
-    if (beside->free_slots[b] == 0)
-        beside->free_slots[b] = size_classes[b].slots;
-    beside->free_slots[b]--;
+    compare_slots(beside, size, ours.place, theirs, b);
     keep_pair(beside, ours.place, theirs, b);
 }
 
@@ -254,10 +272,73 @@ static void release(struct beside *beside, size_t number)
     expect(answer == 0, "release %" PRIu64 ": %" PRIu64, pair.place, answer);
     _zend_mm_free(beside->heap, pair.block);
     beside->pairs[number] = beside->pairs[--beside->count];
-    if (pair.class_number < CLASSES) {
-        beside->free_slots[pair.class_number]++;
-        beside->released[pair.class_number] = true;
+    note_release(beside, pair.class_number);
+}
+
+/* A resize of the pool; one that had to sweep counts as refused. */
+static struct lensember_resized resize_ours(struct beside *beside, uint64_t place, uint64_t size)
+{
+    static const struct lensember_resized refused = {.refusal = LENSEMBER_NO_ROOM};
+    struct lensember_resized ours;
+
+    lent_copy(&beside->before, &beside->pool);
+    ours = library_resize(&beside->pool, place, size);
+    if (swept_pages(beside) == 0)
+        return ours;
+    lent_copy(&beside->pool, &beside->before);
+    return refused;
+}
+
+/* The block that a moved one has now; the old one is given back behind it. */
+static void move_pair(struct beside *beside, struct pair *pair, uint64_t size, uint64_t place,
+                      void *block)
+{
+    unsigned from = pair->class_number;
+
+    pair->place = place;
+    pair->block = block;
+    pair->class_number = size <= LARGEST_SMALL ? class_of_size(size) : CLASSES;
+    if (pair->class_number < CLASSES)
+        compare_slots(beside, size, place, block, pair->class_number);
+    else
+        compare_places(beside, size, place, block);
+    note_release(beside, from);
+}
+
+static unsigned long kept, moved; /* blocks of the group under way */
+
+static bool is_size_below(const struct pair *pair, uint64_t size)
+{
+    unsigned b = pair->class_number;
+
+    return b > 0 && b < CLASSES && size == size_classes[b - 1].size;
+}
+
+static void resize(struct beside *beside, size_t number, uint64_t size)
+{
+    struct pair *pair = &beside->pairs[number];
+    struct lensember_resized ours;
+    bool stays;
+    void *theirs;
+
+    if (is_size_below(pair, size))
+        return;
+    group.trials++;
+    ours = resize_ours(beside, pair->place, size);
+    if (ours.refusal != 0) {
+        expect(ours.refusal == 4, "resize to %" PRIu64 " bytes: %" PRIu64, size, ours.refusal);
+        return;
     }
+    theirs = _zend_mm_realloc(beside->heap, pair->block, size);
+    stays = theirs == pair->block;
+    meet_chunk(beside, theirs);
+    compare_sizes(beside, size, ours.size, theirs);
+    expect((ours.how == LENSEMBER_KEPT) == stays, "%" PRIu64 " to %" PRIu64 " bytes: PHP %s it",
+           pair->place, size, stays ? "keeps" : "moves");
+    if (!stays)
+        move_pair(beside, pair, size, ours.place, theirs);
+    kept += stays;
+    moved += !stays;
 }
 
 /* ---- Sizes ------------------------------------------------------------------------- */
@@ -297,6 +378,23 @@ static void test_slots(void)
         beside_free(beside);
     }
     group_end();
+}
+
+/* From each class to each size that a slot serves, and one more. */
+static void test_resized_slots(void)
+{
+    struct beside *beside = beside_new(1);
+
+    group_begin("php", "slots-of-each-class-to-every-size-to-3073");
+    for (unsigned b = 0; b < CLASSES; b++) {
+        for (uint64_t size = 0; size <= LARGEST_SMALL + 1; size++) {
+            reserve(beside, size_classes[b].size);
+            resize(beside, beside->count - 1, size);
+            release(beside, beside->count - 1);
+        }
+    }
+    group_end();
+    beside_free(beside);
 }
 
 /* ---- Runs of pages ------------------------------------------------------------------ */
@@ -348,11 +446,14 @@ static void run_series(const struct run_series *series, unsigned calls)
         leave_one_run_a_chunk(beside);
     alone = beside->count;
     for (unsigned i = 0; i < calls; i++) {
-        unsigned reserves = i / 1000 % 2 == 0 ? 65 : 35;
-        if (rng_below(&rng, 100) < reserves)
+        unsigned reserves = i / 1500 % 2 == 0 ? 65 : 35, pick = rng_below(&rng, 120);
+        unsigned others = (unsigned)(beside->count - alone);
+        if (pick < reserves)
             reserve(beside, draw_size(series));
-        else if (beside->count > alone)
-            release(beside, alone + rng_below(&rng, (unsigned)(beside->count - alone)));
+        else if (others > 0 && pick < 100)
+            release(beside, alone + rng_below(&rng, others));
+        else if (others > 0)
+            resize(beside, alone + rng_below(&rng, others), draw_size(series));
     }
     beside_free(beside);
 }
@@ -373,10 +474,12 @@ static void test_runs(void)
 {
     for (size_t i = 0; i < COUNT(all_series); i++) {
         group_begin("php", all_series[i].name);
-        without_room = 0;
+        without_room = kept = moved = 0;
         for (unsigned round = 0; round < 20; round++)
-            run_series(&all_series[i], 10000);
+            run_series(&all_series[i], 12000);
         expect_least(without_room, 100, "runs without room");
+        expect_least(kept, 2000, "kept");
+        expect_least(moved, 1000, "moved");
         group_end();
     }
 }
@@ -434,12 +537,14 @@ int main(int argc, char **argv)
     program_begin(argc, argv);
     test_sizes();
     test_slots();
+    test_resized_slots();
     test_runs();
     test_sweeps();
     printf("compared: sizes given; places of page runs and runs of slots; places of slots of\n"
-           "classes of which none was released; what a sweep after drops gains. Not compared,\n"
-           "since the rules differ: which of several free slots is given, and so which runs are\n"
-           "empty later; what is done without room or with an empty chunk; the order of four\n"
-           "chunks and more for fewer than 8 pages; requests above 2093056\n");
+           "classes of which none was released; what a sweep after drops gains; which blocks a\n"
+           "resize keeps. Not compared, since the rules differ: which of several free slots is\n"
+           "given, and so which runs are empty later; what is done without room or with an empty\n"
+           "chunk; the order of four chunks and more for fewer than 8 pages; a slot that gets\n"
+           "the size of the class below; requests above 2093056\n");
     return program_end("php");
 }

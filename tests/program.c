@@ -60,15 +60,19 @@ static void test_known_logs(void)
     }
 }
 
+static void expect_cuts(const struct known_log *log)
+{
+    for (size_t cut = 0; cut <= log->length; cut++) {
+        struct log_outcome outcome = expect_replayed(file_of(log->bytes, cut), SINK_FILE);
+        expect(outcome.refusal == (cut == log->length ? 0 : 8), "cut at %zu", cut);
+    }
+}
+
 static void test_cuts(void)
 {
-    const struct known_log *sample = &known_logs[0];
-
-    group_begin("log", "sample-cut-at-every-byte");
-    for (size_t cut = 0; cut <= sample->length; cut++) {
-        struct log_outcome outcome = expect_replayed(file_of(sample->bytes, cut), SINK_FILE);
-        expect(outcome.refusal == (cut == sample->length ? 0 : 8), "cut at %zu", cut);
-    }
+    group_begin("log", "samples-cut-at-every-byte");
+    expect_cuts(known_log_named("sample"));
+    expect_cuts(known_log_named("sample-of-resizes"));
     group_end();
 }
 
@@ -109,7 +113,7 @@ static void test_full_pool(void)
 
 /* ---- Lengths ------------------------------------------------------------------------------- */
 
-/* A start and so many fields: 4 bytes and 7 for each. */
+/* A start and so many reserves and releases: 4 bytes and 7 for each. */
 static void draft_fields(unsigned fields)
 {
     draft_clear(&draft);
@@ -130,12 +134,42 @@ static void expect_stop(uint64_t refusal, uint64_t position)
            "%" PRIu64 " at %" PRIu64, outcome.refusal, outcome.position);
 }
 
-static void length_of_longest_good_log(void)
+static void length_of_longest_log_without_resizes(void)
 {
     draft_fields(2339);
     draft_end(&draft);
     expect(draft.length == 16380, "%zu bytes", draft.length);
     expect_stop(0, 0);
+}
+
+/* A field of 11 bytes makes up for the four that are left. */
+static void length_of_longest_good_log(void)
+{
+    draft_fields(2338);
+    draft_resize(&draft, draw_live_place(&draft.guide), 5000);
+    draft_end(&draft);
+    expect(draft.length == 16384, "%zu bytes", draft.length);
+    expect_stop(0, 0);
+}
+
+/* The limit falls inside a resize: seven to two of its bytes are read. */
+static void length_that_cuts_a_resize(void)
+{
+    static const struct {
+        unsigned fields, resizes; /* before the last resize */
+    } rows[] = {{2339, 0}, {2336, 2}, {2333, 4}, {2330, 6}, {2327, 8}, {2324, 10}};
+
+    for (size_t i = 0; i < COUNT(rows); i++) {
+        size_t last;
+        draft_fields(rows[i].fields);
+        for (unsigned n = 0; n < rows[i].resizes; n++)
+            draft_resize(&draft, draw_live_place(&draft.guide), draw_small_size());
+        last = draft.length;
+        draft_resize(&draft, draw_live_place(&draft.guide), 5000);
+        draft_end(&draft);
+        expect(last < 16384 && last + 11 > 16384, "%zu bytes before the last field", last);
+        expect_stop(8, last);
+    }
 }
 
 /* One to four bytes after the end are read, and so are refused. */
@@ -153,7 +187,7 @@ static void length_up_to_16384(void)
 
 /*
  * Start and 2,340 fields are 16,384 bytes, without an end. So the limit falls
- * between two fields of every log that is good up to it.
+ * between two fields of every log without resizes that is good up to it.
  */
 static void length_of_16384(void)
 {
@@ -196,7 +230,9 @@ static const struct {
     const char *name;
     void (*run)(void);
 } by_length[] = {
-    {"16380-the-longest-good-log", length_of_longest_good_log},
+    {"16380-the-longest-without-resizes", length_of_longest_log_without_resizes},
+    {"16384-the-longest-good-log", length_of_longest_good_log},
+    {"a-resize-cut-by-the-limit", length_that_cuts_a_resize},
     {"16381-to-16384-bytes-after-the-end", length_up_to_16384},
     {"16384-without-an-end", length_of_16384},
     {"16387-the-end-counts-as-missing", length_of_16387},

@@ -13,6 +13,7 @@
 #include "draws.h"
 #include "groups.h"
 #include "known.h"
+#include "resizes.h"
 #include "shapes.h"
 #include "stage.h"
 #include "trials.h"
@@ -92,31 +93,57 @@ static void test_cuts(void)
     group_end();
 }
 
-/* The sample with each byte in turn set to each value. */
-static void test_every_byte(void)
+/* Each byte in turn is set to each value. */
+static void try_every_byte(struct stage *stage, const struct known_log *log)
 {
-    const struct known_log *sample = &known_logs[0];
-    struct stage *stage = stage_new(1);
-
-    group_begin("log", "every-value-of-every-byte");
-    for (size_t at = 0; at < sample->length; at++) {
+    for (size_t at = 0; at < log->length; at++) {
         stage_prepare_anyhow(stage);
         for (unsigned value = 0; value < 256; value++) {
             draft_clear(&draft);
-            draft_bytes(&draft, sample->bytes, sample->length);
+            draft_bytes(&draft, log->bytes, log->length);
             draft.bytes[at] = (uint8_t)value;
             try_draft(stage);
         }
     }
+}
+
+static void test_every_byte(void)
+{
+    static const char *const names[] = {"sample", "sample-of-resizes", "resize-that-sweeps"};
+    struct stage *stage = stage_new(1);
+
+    for (size_t i = 0; i < COUNT(names); i++) {
+        char name[60];
+        snprintf(name, sizeof name, "every-value-of-every-byte-of-%s", names[i]);
+        group_begin("log", name);
+        try_every_byte(stage, known_log_named(names[i]));
+        group_end();
+    }
+    stage_free(stage);
+}
+
+/* The log of resizes cut at every byte: 8 but for the whole log, and the fields before it stand. */
+static void test_cut_resizes(void)
+{
+    const struct known_log *log = known_log_named("sample-of-resizes");
+    struct stage *stage = stage_new(1);
+
+    group_begin("log", "resizes-cut-at-every-byte");
+    stage_prepare_anyhow(stage);
+    for (size_t cut = 0; cut <= log->length; cut++)
+        expect(stage_try(stage, log->bytes, cut).refusal == (cut < log->length ? 8 : 0),
+               "cut at %zu", cut);
     group_end();
     stage_free(stage);
 }
 
 /* ---- Headers ------------------------------------------------------------------------ */
 
-static const unsigned tags[] = {0, 1, 2, 3, 4, 5, 6, 7, 8, 16, 128, 129, 130, 131, 132, 254, 255};
-static const unsigned lengths[] = {
-    0, 1, 2, 3, 4, 5, 6, 7, 8, 255, 256, 257, 259, 260, 261, 512, 1024, 1025, 32768, 65280, 65535};
+static const unsigned tags[] = {0,   1,   2,   3,   4,   5,   6,   7,   8,  9,
+                                16,  128, 129, 130, 131, 132, 136, 254, 255};
+static const unsigned lengths[] = {0,   1,   2,   3,   4,    5,    6,    7,     8,     9,    12,  255,
+                                   256, 257, 259, 260, 261,  263,  264,  265,   512,   1024, 1025,
+                                   2048, 32768, 65280, 65535};
 
 /* What stands before the header: nothing, a start, one more field, a whole log. */
 static void draft_front(unsigned front, size_t c)
@@ -130,6 +157,19 @@ static void draft_front(unsigned front, size_t c)
         draft_end(&draft);
 }
 
+/* A body with which the field would be served: the row of the front is given back, or moved. */
+static uint64_t body_of(unsigned tag, size_t c)
+{
+    switch (tag) {
+    case TAG_START:
+        return c;
+    case TAG_RESIZE:
+        return PAGE_BYTES << 32 | 5000;
+    default:
+        return PAGE_BYTES;
+    }
+}
+
 /* With no body, one byte too few, all of it, and an end behind it. */
 static void try_header(struct stage *stage, unsigned front, unsigned tag, unsigned length)
 {
@@ -137,7 +177,7 @@ static void try_header(struct stage *stage, unsigned front, unsigned tag, unsign
 
     draft_front(front, c);
     header = draft.length + HEADER_BYTES;
-    draft_field(&draft, tag, length, tag == TAG_START ? c : 4096);
+    draft_field(&draft, tag, length, body_of(tag, c));
     stage_try(stage, draft.bytes, header);
     if (length > 0)
         stage_try(stage, draft.bytes, header + length - 1);
@@ -271,7 +311,7 @@ static void draft_noise(size_t c)
     if (rng_below(&rng, 2))
         draft_start(&draft, c);
     for (unsigned i = 0; i < count; i++) {
-        uint8_t byte = (uint8_t)rng_below(&rng, rng_below(&rng, 6) ? 6 : 256);
+        uint8_t byte = (uint8_t)rng_below(&rng, rng_below(&rng, 6) ? 9 : 256);
         draft_bytes(&draft, &byte, 1);
     }
 }
@@ -357,16 +397,29 @@ static void draft_drops(void)
         draft_release(&draft, draw_live_place(&draft.guide));
 }
 
-/* Then tables are asked for, and rows, until there is no room: the empty runs are in the way. */
+/* The block at any live place gets a size near its own, or any. */
+static void draft_new_size(void)
+{
+    uint64_t place = draw_live_place(&draft.guide);
+
+    draft_resize(&draft, place, draw_new_size(&draft.guide, place));
+}
+
+/*
+ * Then tables are asked for, and rows, and blocks get other sizes, until there is no room: the
+ * empty runs are in the way.
+ */
 static void draft_tables(void)
 {
     unsigned most_pages = rng_below(&rng, 3) ? 60 : 511, refused = 0;
 
     while (refused < 4 && draft.count < DRAFT_FIELDS - 8) {
         unsigned long live = draft.guide.live.count;
+        draft_new_size();
         draft_reserve(&draft, draw_large_size(most_pages));
         refused += draft.guide.live.count == live;
         draft_reserve(&draft, draw_small_size());
+        draft_new_size();
     }
 }
 
@@ -385,6 +438,7 @@ static void draft_mornings(size_t c, unsigned mornings)
 static void test_mornings(void)
 {
     unsigned long swept = outcomes.swept, in_vain = outcomes.in_vain;
+    struct resize_counts resizes = outcomes.resizes;
 
     group_begin("log", "mornings-of-drops-then-big-tables");
     for (size_t c = 1; c <= MAX_CHUNKS; c++) {
@@ -398,6 +452,8 @@ static void test_mornings(void)
     }
     expect_least(outcomes.swept - swept, 600, "served by a sweep");
     expect_least(outcomes.in_vain - in_vain, 500, "refused in spite of empty runs");
+    expect_least(outcomes.resizes.swept - resizes.swept, 200, "moved by a sweep");
+    expect_least(outcomes.resizes.in_vain - resizes.in_vain, 100, "not moved in spite of empty runs");
     group_end();
 }
 
@@ -465,6 +521,8 @@ static void test_longest_lines(void)
         draft_reserve(&draft, 2093056 - rng_below(&rng, 4096));
         draft_reserve(&draft, UINT32_MAX - i);
         draft_release(&draft, UINT32_MAX - i);
+        draft_resize(&draft, UINT32_MAX - i, UINT32_MAX - i);
+        draft_resize(&draft, 15 * CHUNK_BYTES + PAGE_BYTES, 2093056 - rng_below(&rng, 4096));
     }
     draft_end(&draft);
     stage_prepare_anyhow(stage);
@@ -645,12 +703,17 @@ static void replay_in_series(struct twin *twin)
 /* After each call the census lists the book of demand 3. */
 static void call_in_series(struct twin *twin)
 {
-    switch (rng_below(&rng, 9)) {
+    uint64_t place = draw_live_place(&twin->model);
+
+    switch (rng_below(&rng, 10)) {
     case 0:
         replay_in_series(twin);
         break;
     case 8:
         twin_sweep(twin);
+        break;
+    case 9:
+        twin_resize(twin, place, draw_new_size(&twin->model, place));
         break;
     case 1:
         twin_next(twin, draw_next_place(&twin->model));
@@ -660,7 +723,7 @@ static void call_in_series(struct twin *twin)
         break;
     case 3:
     case 4:
-        twin_release(twin, draw_live_place(&twin->model));
+        twin_release(twin, place);
         break;
     default:
         twin_reserve(twin, rng_below(&rng, 3) ? draw_small_size() : draw_large_size(40));
@@ -698,6 +761,12 @@ static void test_enough(void)
     expect_least(outcomes.releases[0], 30000, "released");
     expect_least(outcomes.releases[5], 5000, "at no block");
     expect_least(outcomes.releases[6], 1000, "at free slots");
+    expect_least(outcomes.resizes.answers[0], 10000, "resized");
+    expect_least(outcomes.resizes.answers[3], 200, "to too big a size");
+    expect_least(outcomes.resizes.answers[4], 1000, "without room to grow");
+    expect_least(outcomes.resizes.answers[5], 3000, "resizes at no block");
+    expect_least(outcomes.resizes.answers[6], 300, "resizes at free slots");
+    expect_each_resize(&outcomes.resizes, 100);
     group_end();
 }
 
@@ -708,6 +777,7 @@ int main(int argc, char **argv)
     test_known_logs_elsewhere();
     test_cuts();
     test_every_byte();
+    test_cut_resizes();
     test_headers();
     test_start_counts();
     test_every_small_size();

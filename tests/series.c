@@ -12,6 +12,7 @@
 #include "draws.h"
 #include "groups.h"
 #include "readers.h"
+#include "resizes.h"
 #include "shapes.h"
 #include "trials.h"
 #include "twin.h"
@@ -22,45 +23,6 @@
 #include <string.h>
 
 /* ---- The samples (RULES 12) ------------------------------------------------ */
-
-static void expect_served(struct twin *twin, uint64_t size, uint64_t place, uint64_t given)
-{
-    struct pool_reserved answer = twin_reserve(twin, size);
-
-    expect(answer.refusal == 0 && answer.place == place && answer.size == given,
-           "reserve %" PRIu64 ": %" PRIu64 " at %" PRIu64 " size %" PRIu64,
-           size, answer.refusal, answer.place, answer.size);
-}
-
-static void expect_refused(struct twin *twin, uint64_t size, uint64_t number)
-{
-    struct pool_reserved answer = twin_reserve(twin, size);
-
-    expect(answer.refusal == number, "reserve %" PRIu64 ": %" PRIu64, size, answer.refusal);
-}
-
-static void expect_release(struct twin *twin, uint64_t place, uint64_t number)
-{
-    uint64_t answer = twin_release(twin, place);
-
-    expect(answer == number, "release %" PRIu64 ": %" PRIu64, place, answer);
-}
-
-static void expect_gain(struct twin *twin, uint64_t pages)
-{
-    uint64_t gained = twin_sweep(twin);
-
-    expect(gained == pages, "sweep gains %" PRIu64 " pages, not %" PRIu64, gained, pages);
-}
-
-static void expect_size(struct twin *twin, uint64_t place, uint64_t number, uint64_t size)
-{
-    struct pool_sized answer = twin_block_size(twin, place);
-
-    expect(answer.refusal == number && answer.size == size,
-           "block size of %" PRIu64 ": %" PRIu64 " size %" PRIu64,
-           place, answer.refusal, answer.size);
-}
 
 /* "3,073 takes 1 page, 2,093,056 takes 511, 2,093,057 is refused 3" */
 static void sample_page_counts(struct twin *twin)
@@ -783,7 +745,7 @@ struct mix {
     const char *name;
     void (*start)(struct twin *twin, unsigned b); /* b: a class for the series */
     uint64_t (*size)(unsigned b);
-    unsigned reserves, releases; /* of 100 calls; the others ask for block sizes */
+    unsigned reserves, releases, resizes; /* of 100 calls; the others ask for block sizes */
     unsigned calls_a_sweep;      /* one sweep beside so many calls */
     unsigned rounds;             /* series for each count of chunks; the more, the shorter */
     bool tides;                  /* fill up, then drain, in turn */
@@ -895,13 +857,14 @@ static uint64_t row_or_table(unsigned b)
 }
 
 static const struct mix mixes[] = {
-    {"small-sizes", start_anyhow, draw_mostly_small, 55, 35, 60, 4, false},
-    {"all-sizes", start_anyhow, draw_any_size, 50, 40, 60, 4, false},
-    {"large-only", start_anyhow, draw_large_only, 48, 42, 60, 4, false},
-    {"fill-up-then-drain", start_at_a_tide, filling_size, 80, 10, 200, 4, true},
-    {"one-class-only", start_with_class, draw_mostly_class, 48, 42, 60, 4, false},
-    {"fragmented", start_in_pieces, piece_size, 45, 45, 60, 4, false},
-    {"after-drops", start_after_drops, row_or_table, 50, 40, 100, 120, false},
+    {"small-sizes", start_anyhow, draw_mostly_small, 50, 30, 10, 60, 4, false},
+    {"all-sizes", start_anyhow, draw_any_size, 45, 35, 10, 60, 4, false},
+    {"large-only", start_anyhow, draw_large_only, 43, 37, 10, 60, 4, false},
+    {"fill-up-then-drain", start_at_a_tide, filling_size, 75, 10, 5, 200, 4, true},
+    {"one-class-only", start_with_class, draw_mostly_class, 45, 40, 5, 60, 4, false},
+    {"fragmented", start_in_pieces, piece_size, 40, 40, 10, 60, 4, false},
+    {"after-drops", start_after_drops, row_or_table, 40, 30, 20, 100, 120, false},
+    {"resizes", start_anyhow, draw_any_size, 25, 15, 50, 60, 4, false},
 };
 
 /* A live place, one that was used lately, or one that may be anywhere. */
@@ -958,6 +921,8 @@ static void run_series(struct twin *twin, const struct mix *mix, unsigned b, uns
             place = answer.place;
         } else if (pick < mix->reserves + mix->releases) {
             twin_release(twin, place);
+        } else if (pick < mix->reserves + mix->releases + mix->resizes) {
+            refusal = twin_resize(twin, place, draw_new_size(&twin->model, place)).refusal;
         } else {
             twin_block_size(twin, place);
         }
@@ -1012,6 +977,18 @@ static void expect_enough_changes(void)
     expect_least(answers.sweep[0] - answers.sweep_none, 1000, "that gained pages");
 }
 
+static void expect_enough_resizes(void)
+{
+    const struct resize_counts *resizes = &answers.resizes;
+
+    expect_least(resizes->answers[0], 50000, "resized");
+    expect_least(resizes->answers[3], 500, "to too big a size");
+    expect_least(resizes->answers[4], 500, "without room");
+    expect_least(resizes->answers[5], 5000, "at no block");
+    expect_least(resizes->answers[6], 1000, "at free slots");
+    expect_each_resize(resizes, 100);
+}
+
 /* Sweeps decide: what is served by them, what is not, and what needs none. */
 static void expect_enough_sweeps(void)
 {
@@ -1043,6 +1020,7 @@ static void test_random_series(void)
     group.trials = calls;
     expect_least(calls, 1000000, "calls");
     expect_enough_changes();
+    expect_enough_resizes();
     expect_enough_sweeps();
     expect_enough_reads();
     group_end();
@@ -1209,6 +1187,7 @@ static void expect_calls_refuse(uint64_t number, uint64_t c, const struct record
     }
     group.trials += COUNT(tried_sizes) + 2 * COUNT(tried_places);
     expect_sweep_refuses(number, c, r, n);
+    expect_resizes_refuse(number, c, r, n);
     expect_readers_refuse(number, c, r, n);
 }
 
@@ -1229,6 +1208,7 @@ static void expect_damage_refused(const struct trial_pools *pools, size_t chunk,
     pool_read(&model, &pools->sound);
     live = draw_live_place(&model);
     expect(library_release(&pools->lent, live) == 2, "release of a live block");
+    expect(library_resize(&pools->lent, live, 24).refusal == 2, "resize of a live block");
     expect(library_block_size(&pools->lent, live).refusal == 2, "block size of a live block");
     expect(library_next(&pools->lent, live).refusal == 2, "next from a live block");
     expect_census_refused(&pools->lent, 2, 2 * model.live.count);
@@ -1253,6 +1233,7 @@ static void test_all(void)
     test_no_slots();
     test_no_pages();
     test_sweeps();
+    test_resizes();
     test_random_series();
     test_every_place();
     test_live_sizes();

@@ -24,6 +24,11 @@ uint64_t library_release(const struct records *r, uint64_t place)
     return lensember_release(r->c, LENT(r), place);
 }
 
+struct lensember_resized library_resize(const struct records *r, uint64_t place, uint64_t size)
+{
+    return lensember_resize(r->c, LENT(r), place, size);
+}
+
 struct lensember_swept library_sweep(const struct records *r)
 {
     return lensember_sweep(r->c, LENT(r));

@@ -9,6 +9,7 @@ uint64_t library_check(const struct records *r);
 uint64_t library_fresh(const struct records *r);
 struct lensember_reserved library_reserve(const struct records *r, uint64_t size);
 uint64_t library_release(const struct records *r, uint64_t place);
+struct lensember_resized library_resize(const struct records *r, uint64_t place, uint64_t size);
 struct lensember_swept library_sweep(const struct records *r);
 struct lensember_sized library_block_size(const struct records *r, uint64_t place);
 struct lensember_found library_next(const struct records *r, uint64_t place);

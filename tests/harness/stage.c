@@ -218,6 +218,7 @@ static void count_outcome(const struct log_outcome *outcome)
     }
     outcomes.swept += outcome->swept;
     outcomes.in_vain += outcome->in_vain;
+    add_resizes(&outcomes.resizes, &outcome->resizes);
 }
 
 /* "before an accepted start nothing lent changes" */

@@ -54,6 +54,7 @@ struct outcomes {
     unsigned long logs[10]; /* by refusal */
     unsigned long reserves[CALL_ANSWERS], releases[CALL_ANSWERS];
     unsigned long swept, in_vain; /* as in struct log_outcome */
+    struct resize_counts resizes;
 };
 extern struct outcomes outcomes;
 

@@ -186,6 +186,29 @@ uint64_t twin_release(struct twin *twin, uint64_t place)
     return right;
 }
 
+static bool same_resized(const struct lensember_resized *a, const struct pool_resized *b)
+{
+    return a->refusal == b->refusal && a->place == b->place && a->size == b->size
+        && a->how == (uint64_t)b->how && a->copy == b->copy;
+}
+
+struct pool_resized twin_resize(struct twin *twin, uint64_t place, uint64_t size)
+{
+    struct lensember_resized answer = library_resize(&twin->lent, place, size);
+    struct pool_resized right = pool_resize(&twin->model, place, size);
+
+    expect(same_resized(&answer, &right),
+           "c %zu call %lu, resize %" PRIu64 " to %" PRIu64 ": answer %" PRIu64 " at %" PRIu64
+           " size %" PRIu64 " how %" PRIu64 " copy %" PRIu64 ", the model says %" PRIu64 " at %" PRIu64
+           " size %" PRIu64 " how %d copy %" PRIu64,
+           twin->model.c, twin->calls, place, size, answer.refusal, answer.place, answer.size,
+           answer.how, answer.copy, right.refusal, right.place, right.size, (int)right.how,
+           right.copy);
+    count_resize(&answers.resizes, &twin->model, &right);
+    compare_records(twin, "resize", place);
+    return right;
+}
+
 uint64_t twin_sweep(struct twin *twin)
 {
     struct lensember_swept answer = library_sweep(&twin->lent);
@@ -296,4 +319,45 @@ struct pool_summed twin_totals(struct twin *twin)
     pool_untouch(&twin->model);
     compare_records(twin, "totals", twin->model.c);
     return right;
+}
+
+/* ---- Known numbers ----------------------------------------------------------- */
+
+void expect_served(struct twin *twin, uint64_t size, uint64_t place, uint64_t given)
+{
+    struct pool_reserved answer = twin_reserve(twin, size);
+
+    expect(answer.refusal == 0 && answer.place == place && answer.size == given,
+           "reserve %" PRIu64 ": %" PRIu64 " at %" PRIu64 " size %" PRIu64,
+           size, answer.refusal, answer.place, answer.size);
+}
+
+void expect_refused(struct twin *twin, uint64_t size, uint64_t number)
+{
+    struct pool_reserved answer = twin_reserve(twin, size);
+
+    expect(answer.refusal == number, "reserve %" PRIu64 ": %" PRIu64, size, answer.refusal);
+}
+
+void expect_release(struct twin *twin, uint64_t place, uint64_t number)
+{
+    uint64_t answer = twin_release(twin, place);
+
+    expect(answer == number, "release %" PRIu64 ": %" PRIu64, place, answer);
+}
+
+void expect_gain(struct twin *twin, uint64_t pages)
+{
+    uint64_t gained = twin_sweep(twin);
+
+    expect(gained == pages, "sweep gains %" PRIu64 " pages, not %" PRIu64, gained, pages);
+}
+
+void expect_size(struct twin *twin, uint64_t place, uint64_t number, uint64_t size)
+{
+    struct pool_sized answer = twin_block_size(twin, place);
+
+    expect(answer.refusal == number && answer.size == size,
+           "block size of %" PRIu64 ": %" PRIu64 " size %" PRIu64,
+           place, answer.refusal, answer.size);
 }

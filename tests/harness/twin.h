@@ -38,11 +38,19 @@ void on_each_recipe(unsigned step, twin_test *test);
 void twin_fresh(struct twin *twin);
 struct pool_reserved twin_reserve(struct twin *twin, uint64_t size);
 uint64_t twin_release(struct twin *twin, uint64_t place);
+struct pool_resized twin_resize(struct twin *twin, uint64_t place, uint64_t size);
 uint64_t twin_sweep(struct twin *twin); /* the pages gained */
 struct pool_sized twin_block_size(struct twin *twin, uint64_t place);
 struct pool_found twin_next(struct twin *twin, uint64_t place);
 struct pool_counted twin_census(struct twin *twin, size_t nroom);
 struct pool_summed twin_totals(struct twin *twin);
+
+/* Numbers that are known beforehand, besides those of the model. */
+void expect_served(struct twin *twin, uint64_t size, uint64_t place, uint64_t given);
+void expect_refused(struct twin *twin, uint64_t size, uint64_t number);
+void expect_release(struct twin *twin, uint64_t place, uint64_t number);
+void expect_gain(struct twin *twin, uint64_t pages);
+void expect_size(struct twin *twin, uint64_t place, uint64_t number, uint64_t size);
 
 /* How often the library gave each answer, 0 to 7. Others count as 8. */
 enum { ANSWERS = 9 };
@@ -56,6 +64,7 @@ struct answers {
     unsigned long reserve_unswept; /* served, and there are empty runs */
     unsigned long sweep_none;      /* no page gained */
     unsigned long next_none;       /* no block at or above the place */
+    struct resize_counts resizes;  /* as the model has them */
 };
 extern struct answers answers;
 

@@ -65,6 +65,14 @@ void draft_release(struct draft *draft, uint64_t place)
     pool_release(&draft->guide, place & UINT32_MAX);
 }
 
+void draft_resize(struct draft *draft, uint64_t place, uint64_t size)
+{
+    place &= UINT32_MAX;
+    size &= UINT32_MAX;
+    draft_field(draft, TAG_RESIZE, 8, place << 32 | size);
+    pool_resize(&draft->guide, place, size);
+}
+
 void draft_end(struct draft *draft)
 {
     draft_field(draft, TAG_END, 0, 0);
@@ -86,12 +94,13 @@ static uint64_t any_number(unsigned b)
 }
 
 const struct diet diets[] = {
-    {"small-sizes", draw_mostly_small, 65},
-    {"all-sizes", draw_any_size, 55},
-    {"large-only", draw_large_only, 52},
-    {"filling-up", filling_size, 90},
-    {"one-class", draw_mostly_class, 60},
-    {"any-numbers", any_number, 50},
+    {"small-sizes", draw_mostly_small, 55, 15},
+    {"all-sizes", draw_any_size, 45, 20},
+    {"large-only", draw_large_only, 42, 20},
+    {"filling-up", filling_size, 80, 12},
+    {"one-class", draw_mostly_class, 50, 15},
+    {"any-numbers", any_number, 40, 20},
+    {"resizes", draw_any_size, 30, 55},
 };
 
 const size_t diet_count = COUNT(diets);
@@ -127,10 +136,15 @@ void draft_log(struct draft *draft, size_t c, const struct diet *diet, unsigned 
     draft_clear(draft);
     draft_start(draft, c);
     for (unsigned i = 0; i < fields; i++) {
-        if (rng_below(&rng, 100) < diet->reserves)
+        unsigned pick = rng_below(&rng, 100);
+        uint64_t place = any_place(&draft->guide, &recent);
+        if (pick < diet->reserves)
             draft_reserve(draft, diet->size(b));
+        else if (pick < diet->reserves + diet->resizes)
+            draft_resize(draft, place, rng_below(&rng, 4) ? draw_new_size(&draft->guide, place)
+                                                          : diet->size(b));
         else
-            draft_release(draft, any_place(&draft->guide, &recent));
+            draft_release(draft, place);
     }
     draft_end(draft);
 }
@@ -194,7 +208,7 @@ static void spoil_by_cut_near_a_field(struct draft *draft)
 /* Also another tag of the log, so the length or the turn is wrong. */
 static void spoil_tag(struct draft *draft)
 {
-    static const uint8_t tags[] = {0, 1, 2, 3, 4, 5, 6, 16, 128, 129, 130, 131, 132, 255};
+    static const uint8_t tags[] = {0, 1, 2, 3, 4, 5, 6, 7, 8, 9, 16, 128, 129, 130, 131, 136, 255};
 
     *any_header(draft) = tags[rng_below(&rng, COUNT(tags))];
 }
@@ -228,7 +242,7 @@ static void spoil_start_count(struct draft *draft)
 
 static void spoil_by_field(struct draft *draft, unsigned tag, unsigned length, uint64_t number)
 {
-    uint8_t field[HEADER_BYTES + 8];
+    uint8_t field[HEADER_BYTES + 12];
 
     insert(draft, draft->starts[any_field(draft)], field, encode(field, tag, length, number));
 }
@@ -245,7 +259,7 @@ static void spoil_by_early_end(struct draft *draft)
 
 static void spoil_by_odd_field(struct draft *draft)
 {
-    spoil_by_field(draft, rng_below(&rng, 7), rng_below(&rng, 8), rng_next(&rng));
+    spoil_by_field(draft, rng_below(&rng, 10), rng_below(&rng, 12), rng_next(&rng));
 }
 
 static void spoil_by_no_start(struct draft *draft)
@@ -263,7 +277,7 @@ static void spoil_by_bytes_after_end(struct draft *draft)
     uint8_t bytes[9];
 
     for (size_t i = 0; i < COUNT(bytes); i++)
-        bytes[i] = (uint8_t)rng_below(&rng, rng_below(&rng, 2) ? 6 : 256);
+        bytes[i] = (uint8_t)rng_below(&rng, rng_below(&rng, 2) ? 9 : 256);
     draft_bytes(draft, bytes, 1 + rng_below(&rng, COUNT(bytes)));
 }
 
@@ -282,7 +296,7 @@ static void spoil_byte(struct draft *draft)
 
 static void spoil_by_byte_more(struct draft *draft)
 {
-    uint8_t byte = (uint8_t)rng_below(&rng, rng_below(&rng, 2) ? 6 : 256);
+    uint8_t byte = (uint8_t)rng_below(&rng, rng_below(&rng, 2) ? 9 : 256);
 
     insert(draft, any_below(draft->length), &byte, 1);
 }

@@ -24,13 +24,14 @@ void draft_field(struct draft *draft, unsigned tag, unsigned length, uint64_t nu
 void draft_start(struct draft *draft, size_t c);
 void draft_reserve(struct draft *draft, uint64_t size);  /* its low 32 bits */
 void draft_release(struct draft *draft, uint64_t place); /* its low 32 bits */
+void draft_resize(struct draft *draft, uint64_t place, uint64_t size); /* the low 32 bits of both */
 void draft_end(struct draft *draft);
 
 /* What the requests of a log are like. */
 struct diet {
     const char *name;
     uint64_t (*size)(unsigned b); /* b: a class for the log */
-    unsigned reserves;            /* of 100 fields; the others are releases */
+    unsigned reserves, resizes;   /* of 100 fields; the others are releases */
 };
 
 extern const struct diet diets[];

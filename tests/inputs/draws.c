@@ -31,10 +31,10 @@ uint64_t draw_small_size(void)
     return draw_size_of_class((unsigned)below(CLASSES));
 }
 
-/* Whole pages, one byte more, one byte less, or anything between. */
-uint64_t draw_large_size(unsigned most_pages)
+/* All bytes of the pages, one byte of the last one, all but one, or anything between. */
+static uint64_t size_in_pages(uint64_t pages)
 {
-    uint64_t size = PAGE_BYTES * (1 + below(most_pages));
+    uint64_t size = PAGE_BYTES * pages;
 
     switch (below(4)) {
     case 0:
@@ -49,6 +49,11 @@ uint64_t draw_large_size(unsigned most_pages)
         size -= below(PAGE_BYTES);
     }
     return size > LARGEST_SMALL ? size : LARGEST_SMALL + 1;
+}
+
+uint64_t draw_large_size(unsigned most_pages)
+{
+    return size_in_pages(1 + below(most_pages));
 }
 
 uint64_t draw_hostile_size(void)
@@ -100,6 +105,45 @@ uint64_t draw_large_only(unsigned b)
 uint64_t draw_mostly_class(unsigned b)
 {
     return rng_below(&rng, 64) ? draw_size_of_class(b) : draw_any_size(b);
+}
+
+/* Of the slot's class, or up to two classes away. */
+static uint64_t near_slot(uint64_t size)
+{
+    unsigned b = class_of_size(size) + (unsigned)below(5);
+
+    b = b < 2 ? 0 : b - 2;
+    return draw_size_of_class(b < CLASSES ? b : CLASSES - 1);
+}
+
+/* Few pages more or fewer, around 64 of them, or up to what stands behind the run, and one more. */
+static uint64_t near_run(uint64_t pages, uint64_t most)
+{
+    static const unsigned steps[] = {0, 1, 2, 3, 63, 64, 65};
+    unsigned step = steps[below(COUNT(steps))];
+
+    switch (below(4)) {
+    case 0:
+        pages = most + below(2);
+        break;
+    case 1:
+        pages = pages > step ? pages - step : 1;
+        break;
+    default:
+        pages += step;
+    }
+    return size_in_pages(pages < PAGES ? pages : PAGES - 1);
+}
+
+uint64_t draw_new_size(const struct pool *pool, uint64_t place)
+{
+    uint64_t size = pool_block_size(pool, place).size;
+
+    if (below(4) == 0)
+        return draw_any_size(0);
+    if (size <= LARGEST_SMALL)
+        return near_slot(size);
+    return near_run(size / PAGE_BYTES, pool_most_pages(pool, place));
 }
 
 /* ---- Places ------------------------------------------------------------------ */

@@ -15,6 +15,9 @@ uint64_t draw_any_size(unsigned b);
 uint64_t draw_large_only(unsigned b);
 uint64_t draw_mostly_class(unsigned b);
 
+/* A size for the block at a place: near the one that it has, or any. */
+uint64_t draw_new_size(const struct pool *pool, uint64_t place);
+
 /* The place of a live block; page 0 where none is found. */
 uint64_t draw_live_place(const struct pool *pool);
 

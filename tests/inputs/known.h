@@ -17,4 +17,6 @@ struct known_log {
 extern const struct known_log known_logs[];
 extern const size_t known_log_count;
 
+const struct known_log *known_log_named(const char *name); /* null if there is none */
+
 #endif

@@ -12,7 +12,7 @@
 #include "pool.h"
 
 /* What a log may hold: one byte tag, two bytes length, then the body. */
-enum { TAG_START = 1, TAG_RESERVE = 2, TAG_RELEASE = 3, TAG_END = 4 };
+enum { TAG_START = 1, TAG_RESERVE = 2, TAG_RELEASE = 3, TAG_END = 4, TAG_RESIZE = 8 };
 enum { HEADER_BYTES = 3 };
 
 /* Lines as they are written. Starts as zero. */
@@ -23,9 +23,6 @@ struct text {
 
 void text_free(struct text *text);
 
-/* How often calls were answered 0 to 6. */
-enum { CALL_ANSWERS = 7 };
-
 struct log_outcome {
     uint64_t refusal, position;
     bool started;         /* else nothing lent has changed */
@@ -33,6 +30,7 @@ struct log_outcome {
     unsigned long reserves[CALL_ANSWERS], releases[CALL_ANSWERS];
     unsigned long swept;   /* reserves that were served, but only after a sweep */
     unsigned long in_vain; /* reserves that were refused 4, and there were empty runs */
+    struct resize_counts resizes;
 };
 
 /*

@@ -50,7 +50,7 @@ static void remove_run(struct pool_chunk *chunk, const struct pool_run *run)
 
 void pool_untouch(struct pool *pool)
 {
-    pool->touched.pages = 0;
+    pool->touched.count = 0;
     pool->touched.anywhere = false;
 }
 
@@ -187,12 +187,17 @@ unsigned class_of_size(uint64_t size)
     return b;
 }
 
-/* What was swept before, in the same call, stays touched. */
+/* What was swept or touched before, in the same call, stays touched. */
+static void touch_pages(struct pool *pool, size_t chunk, unsigned first, unsigned pages)
+{
+    struct stretch stretch = {chunk, first, pages};
+
+    pool->touched.stretches[pool->touched.count++] = stretch;
+}
+
 static void touch(struct pool *pool, size_t chunk, const struct pool_run *run)
 {
-    pool->touched.chunk = chunk;
-    pool->touched.first = run->first;
-    pool->touched.pages = run->pages;
+    touch_pages(pool, chunk, run->first, run->pages);
 }
 
 /* "the shortest such gap, the lower one on a tie": its first page, or 0. */
@@ -320,14 +325,26 @@ static struct pool_reserved reserve_pages(struct pool *pool, unsigned pages)
     return answer;
 }
 
+/* "size over 4,096, rounded up" */
+static unsigned pages_of_size(uint64_t size)
+{
+    return (unsigned)((size + PAGE_BYTES - 1) / PAGE_BYTES);
+}
+
+/* Up to the largest size. */
+static struct pool_reserved take_block(struct pool *pool, uint64_t size)
+{
+    if (size <= LARGEST_SMALL)
+        return reserve_slot(pool, class_of_size(size));
+    return reserve_pages(pool, pages_of_size(size));
+}
+
 struct pool_reserved pool_reserve(struct pool *pool, uint64_t size)
 {
     pool_untouch(pool);
     if (size > LARGEST)
         return refuse(3);
-    if (size <= LARGEST_SMALL)
-        return reserve_slot(pool, class_of_size(size));
-    return reserve_pages(pool, (unsigned)((size + PAGE_BYTES - 1) / PAGE_BYTES));
+    return take_block(pool, size);
 }
 
 /* ---- Release and block size -------------------------------------------------- */
@@ -371,22 +388,34 @@ static struct start find_start(const struct pool *pool, uint64_t place)
     return start;
 }
 
+static void give_back(struct pool *pool, const struct start *start, uint64_t place)
+{
+    touch(pool, start->chunk, start->run);
+    book_take(&pool->live, place);
+    if (start->run->kind == RUN_LARGE) {
+        remove_run(&pool->chunks[start->chunk], start->run);
+    } else {
+        start->run->taken[start->slot] = false; /* the run stays, empty or not, until a sweep */
+        start->run->taken_count--;
+    }
+}
+
 uint64_t pool_release(struct pool *pool, uint64_t place)
 {
     struct start start = find_start(pool, place);
 
     pool_untouch(pool);
-    if (start.refusal != 0)
-        return start.refusal;
-    touch(pool, start.chunk, start.run);
-    book_take(&pool->live, place);
-    if (start.run->kind == RUN_LARGE) {
-        remove_run(&pool->chunks[start.chunk], start.run);
-    } else {
-        start.run->taken[start.slot] = false; /* the run stays, empty or not, until a sweep */
-        start.run->taken_count--;
-    }
-    return 0;
+    if (start.refusal == 0)
+        give_back(pool, &start, place);
+    return start.refusal;
+}
+
+/* Of the block that starts there. */
+static uint64_t start_size(const struct start *start)
+{
+    if (start->run->kind == RUN_LARGE)
+        return start->run->pages * PAGE_BYTES;
+    return size_classes[start->run->class_number].size;
 }
 
 struct pool_sized pool_block_size(const struct pool *pool, uint64_t place)
@@ -394,13 +423,152 @@ struct pool_sized pool_block_size(const struct pool *pool, uint64_t place)
     struct start start = find_start(pool, place);
     struct pool_sized answer = {start.refusal, 0};
 
-    if (start.refusal != 0)
-        return answer;
-    if (start.run->kind == RUN_LARGE)
-        answer.size = start.run->pages * PAGE_BYTES;
-    else
-        answer.size = size_classes[start.run->class_number].size;
+    if (start.refusal == 0)
+        answer.size = start_size(&start);
     return answer;
+}
+
+/* ---- Resize ---------------------------------------------------------------------- */
+
+/* It holds the size, and the class below does not. */
+static bool slot_stays(const struct pool_run *run, uint64_t size)
+{
+    unsigned b = run->class_number;
+
+    return size <= size_classes[b].size && (b == 0 || size > size_classes[b - 1].size);
+}
+
+/* The run behind this one in its chunk, or null. */
+static const struct pool_run *run_behind(const struct pool_chunk *chunk, const struct pool_run *run)
+{
+    unsigned at = 0;
+
+    while (chunk->runs[at] != run)
+        at++;
+    return at + 1 < chunk->count ? chunk->runs[at + 1] : NULL;
+}
+
+/* A large run may have all pages up to the next run, of whatever kind, or to the chunk's end. */
+static unsigned most_pages(const struct pool *pool, const struct start *start)
+{
+    const struct pool_run *next = run_behind(&pool->chunks[start->chunk], start->run);
+
+    return (next != NULL ? next->first : PAGES) - start->run->first;
+}
+
+unsigned pool_most_pages(const struct pool *pool, uint64_t place)
+{
+    struct start start = find_start(pool, place);
+
+    if (start.refusal != 0 || start.run->kind != RUN_LARGE)
+        return 0;
+    return most_pages(pool, &start);
+}
+
+static struct pool_resized refuse_resize(uint64_t number)
+{
+    struct pool_resized refused = {number, 0, 0, RESIZED_NOTHING, 0, CHANGES, BAR_NONE, 0};
+    return refused;
+}
+
+static struct pool_resized keep(uint64_t place, uint64_t size, enum change change)
+{
+    struct pool_resized kept = {0, place, size, RESIZED_KEPT, 0, change, BAR_NONE, 0};
+    return kept;
+}
+
+/* The run gets so many pages: touched are all that it had or has. */
+static struct pool_resized cut_anew(struct pool *pool, const struct start *start, uint64_t place,
+                                    unsigned pages)
+{
+    struct pool_run *run = start->run;
+    unsigned had = run->pages;
+
+    if (pages == had)
+        return keep(place, pages * PAGE_BYTES, RUN_STAYS);
+    touch_pages(pool, start->chunk, run->first, pages > had ? pages : had);
+    run->pages = pages;
+    book_take(&pool->live, place);
+    book_put(&pool->live, place, pages * PAGE_BYTES);
+    return keep(place, pages * PAGE_BYTES, pages > had ? RUN_GROWS : RUN_SHRINKS);
+}
+
+/* Where a large run is asked to grow and cannot. */
+static enum bar bar_of(const struct pool *pool, const struct start *start, uint64_t size)
+{
+    const struct pool_run *next = run_behind(&pool->chunks[start->chunk], start->run);
+
+    if (start->run->kind != RUN_LARGE || size <= LARGEST_SMALL)
+        return BAR_NONE;
+    if (next == NULL)
+        return BAR_CHUNK_END;
+    return is_in_use(next) ? BAR_BLOCK : BAR_EMPTY_RUN;
+}
+
+/* "reserved while the old block is live": a sweep leaves its run alone. */
+static struct pool_resized move(struct pool *pool, const struct start *start, uint64_t place,
+                                uint64_t size)
+{
+    bool from_slot = start->run->kind == RUN_CLASS, to_slot = size <= LARGEST_SMALL;
+    struct pool_resized moved = refuse_resize(0);
+    struct pool_reserved block;
+
+    moved.bar = bar_of(pool, start, size);
+    block = take_block(pool, size);
+    moved.refusal = block.refusal;
+    if (block.refusal != 0)
+        return moved;
+    moved.place = block.place;
+    moved.size = block.size;
+    moved.how = RESIZED_MOVED;
+    moved.copy = size < start_size(start) ? size : start_size(start);
+    moved.gained = block.gained;
+    if (from_slot)
+        moved.change = to_slot ? SLOT_TO_SLOT : SLOT_TO_RUN;
+    else
+        moved.change = to_slot ? RUN_TO_SLOT : RUN_TO_RUN;
+    give_back(pool, start, place);
+    return moved;
+}
+
+struct pool_resized pool_resize(struct pool *pool, uint64_t place, uint64_t size)
+{
+    struct start start = find_start(pool, place);
+
+    pool_untouch(pool);
+    if (start.refusal != 0)
+        return refuse_resize(start.refusal);
+    if (size > LARGEST)
+        return refuse_resize(3);
+    if (start.run->kind == RUN_CLASS && slot_stays(start.run, size))
+        return keep(place, start_size(&start), SLOT_STAYS);
+    if (start.run->kind == RUN_LARGE && size > LARGEST_SMALL
+        && pages_of_size(size) <= most_pages(pool, &start))
+        return cut_anew(pool, &start, place, pages_of_size(size));
+    return move(pool, &start, place, size);
+}
+
+void count_resize(struct resize_counts *counts, const struct pool *pool,
+                  const struct pool_resized *answer)
+{
+    counts->answers[answer->refusal]++;
+    counts->bars[answer->bar]++;
+    if (answer->refusal == 0)
+        counts->changes[answer->change]++;
+    counts->swept += answer->gained > 0;
+    counts->in_vain += answer->refusal == 4 && pool_empty_pages(pool) > 0;
+}
+
+void add_resizes(struct resize_counts *counts, const struct resize_counts *more)
+{
+    for (unsigned i = 0; i < CALL_ANSWERS; i++)
+        counts->answers[i] += more->answers[i];
+    for (unsigned i = 0; i < CHANGES; i++)
+        counts->changes[i] += more->changes[i];
+    for (unsigned i = 0; i < BARS; i++)
+        counts->bars[i] += more->bars[i];
+    counts->swept += more->swept;
+    counts->in_vain += more->in_vain;
 }
 
 /* ---- Next, census and totals --------------------------------------------------- */
@@ -492,18 +660,24 @@ void pool_write(const struct pool *pool, struct records *out)
     }
 }
 
-/* The pages are those of one run, which is still there or has been released. */
+/* The pages are those of one run, which is still there, perhaps shorter, or has been released. */
+static void write_stretch(const struct pool *pool, const struct stretch *stretch,
+                          struct records *out)
+{
+    const struct pool_chunk *chunk = &pool->chunks[stretch->chunk];
+
+    wipe_pages(chunk_of(out, stretch->chunk), stretch->first, stretch->pages);
+    for (unsigned i = 0; i < chunk->count; i++)
+        if (chunk->runs[i]->first == stretch->first)
+            write_run(chunk->runs[i], chunk_of(out, stretch->chunk));
+}
+
 void pool_write_touched(const struct pool *pool, struct records *out)
 {
-    const struct touched *touched = &pool->touched;
-    const struct pool_chunk *chunk = &pool->chunks[touched->chunk];
-
-    if (touched->anywhere)
+    if (pool->touched.anywhere) {
         pool_write(pool, out);
-    if (touched->pages == 0 || touched->anywhere)
         return;
-    wipe_pages(chunk_of(out, touched->chunk), touched->first, touched->pages);
-    for (unsigned i = 0; i < chunk->count; i++)
-        if (chunk->runs[i]->first == touched->first)
-            write_run(chunk->runs[i], chunk_of(out, touched->chunk));
+    }
+    for (unsigned i = 0; i < pool->touched.count; i++)
+        write_stretch(pool, &pool->touched.stretches[i], out);
 }

@@ -4,9 +4,10 @@
  * It keeps no bits and no page words: a chunk is a list of runs by rising
  * page, a run of slots has the set of those that are taken, and a gap is what
  * lies between two runs. A sweep strikes runs off the list, and what it would
- * give is seen by looking through them. The records are written from the runs
- * only to be compared. Next, census and totals come from a book of the blocks
- * that were handed out, and from the gaps.
+ * give is seen by looking through them. A large run may grow up to where the
+ * next run starts. The records are written from the runs only to be compared.
+ * Next, census and totals come from a book of the blocks that were handed out,
+ * and from the gaps.
  */
 #ifndef POOL_H
 #define POOL_H
@@ -32,10 +33,15 @@ struct pool_chunk {
     struct pool_run *runs[PAGES]; /* by rising page */
 };
 
-/* What a call changed the records of: the pages of one run, or any, where runs were swept. */
+/* What a call changed the records of: the pages of a run or two, or any, where runs were swept. */
+enum { MOST_STRETCHES = 2 };
+
 struct touched {
-    size_t chunk;
-    unsigned first, pages; /* no pages: nothing was changed there */
+    unsigned count;
+    struct stretch {
+        size_t chunk;
+        unsigned first, pages;
+    } stretches[MOST_STRETCHES];
     bool anywhere;
 };
 
@@ -73,6 +79,35 @@ struct pool_reserved {
     uint64_t gained; /* pages, by a sweep before it, of which the library tells nothing */
 };
 
+enum resized_how { RESIZED_NOTHING = 0, RESIZED_KEPT = 1, RESIZED_MOVED = 2 };
+
+/* What became of a block: four ways to be kept, then four to be moved. */
+enum change {
+    SLOT_STAYS,
+    RUN_STAYS,
+    RUN_SHRINKS,
+    RUN_GROWS,
+    SLOT_TO_SLOT,
+    SLOT_TO_RUN,
+    RUN_TO_SLOT,
+    RUN_TO_RUN,
+    CHANGES
+};
+
+/* What stands where a large run would have to grow, so that it is moved or refused. */
+enum bar { BAR_NONE, BAR_CHUNK_END, BAR_BLOCK, BAR_EMPTY_RUN, BARS };
+
+struct pool_resized {
+    uint64_t refusal;
+    uint64_t place, size;
+    enum resized_how how;
+    uint64_t copy;
+    /* Of what follows the library tells nothing. */
+    enum change change; /* of a resize that is served */
+    enum bar bar;
+    uint64_t gained; /* pages, by a sweep */
+};
+
 struct pool_sized {
     uint64_t refusal;
     uint64_t size;
@@ -93,11 +128,15 @@ struct pool_summed {
 
 struct pool_reserved pool_reserve(struct pool *pool, uint64_t size);
 uint64_t pool_release(struct pool *pool, uint64_t place);
+struct pool_resized pool_resize(struct pool *pool, uint64_t place, uint64_t size);
 uint64_t pool_sweep(struct pool *pool); /* the pages gained */
 struct pool_sized pool_block_size(const struct pool *pool, uint64_t place);
 struct pool_found pool_next(const struct pool *pool, uint64_t place);
 struct pool_counted pool_census(const struct pool *pool, uint64_t *room, size_t nroom);
 struct pool_summed pool_totals(const struct pool *pool);
+
+/* How many pages the large run at a place may have where it lies; 0 where there is none. */
+unsigned pool_most_pages(const struct pool *pool, uint64_t place);
 
 uint64_t pool_run_pages(const struct pool *pool);   /* in all runs together */
 uint64_t pool_empty_pages(const struct pool *pool); /* in empty runs: what a sweep would gain */
@@ -106,5 +145,21 @@ uint64_t pool_empty_pages(const struct pool *pool); /* in empty runs: what a swe
 void pool_write(const struct pool *pool, struct records *out);
 void pool_write_touched(const struct pool *pool, struct records *out);
 void pool_untouch(struct pool *pool); /* that call changed nothing */
+
+/* How often calls were answered 0 to 6. */
+enum { CALL_ANSWERS = 7 };
+
+/* How resizes went. */
+struct resize_counts {
+    unsigned long answers[CALL_ANSWERS];
+    unsigned long changes[CHANGES], bars[BARS];
+    unsigned long swept;   /* served, but only after a sweep */
+    unsigned long in_vain; /* refused 4, and there were empty runs */
+};
+
+/* Right after the call on this pool. */
+void count_resize(struct resize_counts *counts, const struct pool *pool,
+                  const struct pool_resized *answer);
+void add_resizes(struct resize_counts *counts, const struct resize_counts *more);
 
 #endif

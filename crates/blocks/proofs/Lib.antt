@@ -6,3 +6,4 @@ pub mod KeepLaws
 pub mod ApartLaws
 pub mod PageLaws
 pub mod StoreForms
+pub mod SwapLaws

@@ -42,6 +42,13 @@ pub record Loses (c : ℕ) (p q : Pool) (b : Block) : Type 0 where
   pub good : Good c q
   pub less : Ins b (live c q) (live c p)
 
+-- ... or the block b in place of a, all others as they were
+pub record Swaps (c : ℕ) (p q : Pool) (a b : Block) : Type 0 where
+  pub good : Good c q
+  pub others : List Block
+  pub less : Ins a others (live c p)
+  pub more : Ins b others (live c q)
+
 -- ... or the same blocks
 pub record Stays (c : ℕ) (p q : Pool) : Type 0 where
   pub good : Good c q

@@ -11,14 +11,10 @@ use lib.Dec.{eqb}
 use lib.ListN.{length, getD}
 use Rattle.records.proofs.Flags.{cond-eq, cond-ne, cond-le, cond-nle, eq-cases, le-cases}
 use Rattle.blocks.specs.Blocks.{block, Block, Ins, here, there, Rising, stop, next}
+use Rattle.blocks.proofs.SwapLaws.{ins-low}
 use Rattle.demands.specs.Demand3.{takeOut, insert, sort, Holds}
 
 -- ---- a block more or less, in a list that rises
-
--- the block that was put in is not below the list's low end
-ins-low : {b : Block} {l l′ : List Block} {lo hi : ℕ} → Ins b l l′ → Rising lo l′ hi → lo ≤ b .place
-ins-low here (next h z r) = h
-ins-low (there i) (next h z r) = let k = ins-low i r in omega arith
 
 -- one that was put in where it rises is put in by its place
 pub ins-insert : {b : Block} {l l′ : List Block} {lo hi : ℕ} → Ins b l l′ → Rising lo l′ hi → insert b l ≡ l′

@@ -13,8 +13,8 @@ use Rattle.records.specs.Calls.{fit, shapeOf, admitOf, Left, leaves, freshPool,
 use Rattle.records.proofs.Flags.{cond-ne, eq-cases}
 use Rattle.records.proofs.AdmitLaws.{shaped-lengths, shape-fits}
 use Rattle.records.proofs.FreshLaws.{fresh-served}
-use Rattle.blocks.specs.Blocks.{Block, live}
-use Rattle.blocks.specs.Stores.{Good, Gains, Loses}
+use Rattle.blocks.specs.Blocks.{Block, block, live, Ins}
+use Rattle.blocks.specs.Stores.{Good, Gains, Loses, Swaps}
 use Rattle.blocks.proofs.ApartLaws.{live-rising}
 use Rattle.blocks.proofs.KeepLaws.{admit-good, fresh-empty, fresh-good}
 use Rattle.reserve.specs.declared.Reserved.{Reserved}
@@ -26,13 +26,17 @@ use Rattle.sweep.specs.Sweep as sweeping
 use Rattle.sweep.proofs.SweepLaws.{sweeps}
 use Rattle.release.specs.Release.{give, releaseOf}
 use Rattle.release.proofs.MeanLaws.{give-loses, give-kept}
+use Rattle.resize.specs.declared.Resized.{Resized}
+use Rattle.resize.specs.Resize.{resizeOf}
+use Rattle.resize.specs.Resize as resizing
+use Rattle.resize.proofs.MeanLaws.{resize-swaps, resize-place, resize-kept}
 use Rattle.requestlog.specs.declared.Cursor.{Cursor}
 use Rattle.replay.specs.declared.Event.{Event}
-use Rattle.replay.specs.Run.{reserveEvent, releaseEvent, Run, ended, runAll, runOf, replayOf}
+use Rattle.replay.specs.Run.{reserveEvent, releaseEvent, resizeEvent, Run, ended, runAll, runOf, replayOf}
 use Rattle.lines.specs.Lines.{linesRoom, printed, telling, printedOf}
-use Rattle.demands.specs.Demand2.{blockOf, Plays, log-done, log-refused, other-count, start-field, reserve-field, release-field, end-field}
+use Rattle.demands.specs.Demand2.{blockOf, Plays, log-done, log-refused, other-count, start-field, reserve-field, release-field, resize-field, end-field}
 use Rattle.demands.specs.Demand3.{takeOut, note, notes, State, state, call, series, insert, sort}
-use Rattle.demands.specs.Demand3.{Call, check, fresh, totals, sweep, reserve, release, blockSize, next, census, replay, lines, bytes}
+use Rattle.demands.specs.Demand3.{Call, check, fresh, totals, sweep, reserve, release, resize, blockSize, next, census, replay, lines, bytes}
 use Rattle.demands.proofs.PlayRules.{plays-all}
 use Rattle.demands.proofs.BookLaws.{ins-insert, ins-out, sort-out}
 
@@ -41,7 +45,14 @@ pub record Booked (c : ℕ) (x : State) : Type 0 where
   pub good : Good c (x .pool)
   pub listed : live c (x .pool) ≡ sort (x .book)
 
--- ---- one block more or less
+-- the book without the block b, at the place q
+rest-listed : (c : ℕ) (x : State) (q : ℕ) (b : Block) {l : List Block} → Booked c x → b .place ≡ q → Ins b l (live c (x .pool))
+    → sort (takeOut q (x .book)) ≡ l
+rest-listed c x q b h e i =
+    sort-out q (x .book) ∙ ap (takeOut q) (sym (h .listed)) ∙ ap (λ (n : ℕ). takeOut n (live c (x .pool))) (sym e)
+    ∙ ins-out i (live-rising c (x .pool) (h .good))
+
+-- ---- one block more or less, or in another's place
 
 gained : (c : ℕ) (x : State) (p : Pool) (b : Block) → Booked c x → Gains c (x .pool) p b → Booked c (state p (b ∷ x .book))
 unfolding sort
@@ -50,12 +61,15 @@ gained c x p b h g =
 
 lost : (c : ℕ) (x : State) (p : Pool) (q : ℕ) (b : Block) → Booked c x → b .place ≡ q → Loses c (x .pool) p b
     → Booked c (state p (takeOut q (x .book)))
-lost c x p q b h e g =
+lost c x p q b h e g = record { good = g .good; listed = sym (rest-listed c x q b h e (g .less)) }
+
+swapped : (c : ℕ) (x : State) (p : Pool) (b d : Block) → Booked c x → Swaps c (x .pool) p b d
+    → Booked c (state p (d ∷ takeOut (b .place) (x .book)))
+unfolding sort
+swapped c x p b d h s =
     record {
-      good = g .good;
-      listed =
-          sym (sort-out q (x .book) ∙ ap (takeOut q) (sym (h .listed)) ∙ ap (λ (n : ℕ). takeOut n (live c (x .pool))) (sym e)
-          ∙ ins-out (g .less) (live-rising c (x .pool) (h .good)));
+      good = s .good;
+      listed = sym (ap (insert d) (rest-listed c x _ b h refl (s .less)) ∙ ins-insert (s .more) (live-rising c p (s .good)));
     }
 
 -- ---- a call with its answer
@@ -79,6 +93,18 @@ unfolding note releaseEvent
 release-noted c q x y h f g =
     eq-cases (λ (e : Event). Booked c (state (y .left) (note e (x .book)))) (y .answer) 0
     (λ e. let (b, at, less) = f e in lost c x (y .left) q b h at less) (λ e. kept c x (y .left) (y .answer) h e g)
+
+-- kept or moved, the block that is answered stands in the place of the one at q
+resize-noted : (c q n : ℕ) (x : State) (y : Left Resized Pool) → Booked c x
+    → (y .answer .refusal ≡ 0 → Booked c (state (y .left) (block (y .answer .place) (y .answer .size) ∷ takeOut q (x .book))))
+    → (y .answer .how ≡ 1 → y .answer .place ≡ q)
+    → ((k : ℕ) → y .answer .refusal ≡ suc k → y .left ≡ x .pool) → Booked c (state (y .left) (note (resizeEvent q n (y .answer)) (x .book)))
+unfolding note resizeEvent
+resize-noted c q n x y h f at g =
+    eq-cases (λ (e : Event). Booked c (state (y .left) (note e (x .book)))) (y .answer .refusal) 0
+    (λ e. eq-cases (λ (v : Event). Booked c (state (y .left) (note v (x .book)))) (y .answer .how) 1
+    (λ k. subst (λ (m : ℕ). Booked c (state (y .left) (block m (y .answer .size) ∷ takeOut q (x .book)))) (at k) (f e)) (λ k. f e))
+    (λ e. kept c x (y .left) (y .answer .refusal) h e g)
 
 pub fresh-noted : (c : ℕ) (p : Pool) → fit c p ≡ true → Booked c (state (freshOf c p .left) [])
 unfolding sort
@@ -146,6 +172,16 @@ module _ (c d : ℕ) (x : State) (h : Booked c x) where
       (λ r e. ap (λ (y : Left ℕ Pool). y .left) (give-kept c (x .pool) q r e)))
       (λ r. release-noted c q x (leaves (suc r) (x .pool)) h (λ e. absurd (omega arith)) (λ k e. refl))
 
+  resize-keeps : (q n : ℕ) → Booked c (call (resize d q n) x)
+  unfolding call resizeOf
+  resize-keeps q n =
+      admit-cases (λ (y : Left Resized Pool). Booked c (state (y .left) (note (resizeEvent q n (y .answer)) (x .book))))
+      (λ m. resizing.resize m (x .pool) q n) (λ r. leaves (resizing.refused r) (x .pool))
+      (resize-noted c q n x (resizing.resize c (x .pool) q n) h
+      (λ e. let (z, _, s) = resize-swaps c (x .pool) (h .good) q n e in swapped c x _ (block q z) _ h s)
+      (resize-place c (x .pool) q n) (λ r e. ap (λ (y : Left Resized Pool). y .left) (resize-kept c (x .pool) q n r e)))
+      (λ r. resize-noted c q n x (leaves (resizing.refused (suc r)) (x .pool)) h (λ e. absurd (omega arith)) (λ e. absurd (omega arith)) (λ k e. refl))
+
 -- ---- a replay
 
 -- the fields of a run, booked
@@ -161,6 +197,7 @@ plays-keeps c log (other-count e o) book h = h
 plays-keeps c log (start-field {p = p} e later) book h = plays-keeps c log later [] (fresh-noted c p (h .good .shape))
 plays-keeps c log (reserve-field {p = p} {n = n} e later) book h = plays-keeps c log later _ (reserve-keeps c c (state p book) h n)
 plays-keeps c log (release-field {p = p} {q = q} e later) book h = plays-keeps c log later _ (release-keeps c c (state p book) h q)
+plays-keeps c log (resize-field {p = p} {q = q} {n = n} e later) book h = plays-keeps c log later _ (resize-keeps c c (state p book) h q n)
 plays-keeps c log (end-field e later) book h = plays-keeps c log later book h
 
 -- the printed lines leave what the replay leaves, unless the buffer is refused
@@ -208,6 +245,7 @@ call-keeps c (fresh d) x h = fresh-keeps c d x h
 call-keeps c (reserve d n) x h = reserve-keeps c d x h n
 call-keeps c (sweep d) x h = sweep-keeps c d x h
 call-keeps c (release d q) x h = release-keeps c d x h q
+call-keeps c (resize d q n) x h = resize-keeps c d x h q n
 call-keeps c (replay d log) x h = replay-keeps c d x h log
 call-keeps c (lines d log out) x h = lines-keeps c d x h log out
 call-keeps c (check d) x h = h

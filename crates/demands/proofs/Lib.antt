@@ -1,6 +1,7 @@
 pub mod RefusalClaim
 pub mod ReserveRules
 pub mod PlaceRules
+pub mod ResizeRules
 pub mod PlayRules
 pub mod RuleClaim
 pub mod BookLaws

@@ -16,7 +16,7 @@ use Rattle.records.proofs.KindLaws.{length-zeros}
 use Rattle.records.proofs.RunLaws.{sound-runs}
 use Rattle.records.proofs.AdmitLaws.{shaped-lengths}
 use Rattle.gaps.proofs.Answers.{Around, free-around}
-use Rattle.blocks.specs.Blocks.{Block, block, slotBlock, runBlock, IsSlot, IsLarge, IsLive, run, slot, live}
+use Rattle.blocks.specs.Blocks.{Block, block, slotBlock, runBlock, IsSlot, IsLarge, slot, live}
 use Rattle.blocks.specs.Stores.{putRun, putSlot, Good, Loses}
 use Rattle.blocks.proofs.ApartLaws.{live-is}
 use Rattle.blocks.proofs.StoreLaws.{run-bits, slot-kinds, slot-same}
@@ -28,8 +28,7 @@ use Rattle.release.specs.declared.Spot.the-variants.{Nowhere, Run, Slot}
 use Rattle.release.specs.Release.{spot, released, releaseOf, sized, sizeOf}
 use Rattle.release.proofs.GiveLaws as places
 use Rattle.release.proofs.MeanLaws as spots
-use Rattle.release.proofs.MeanLaws.{give-loses, release-give, release-by, size-by}
-use Rattle.release.specs.declared.Sized.{Sized}
+use Rattle.release.proofs.MeanLaws.{give-loses, release-give, release-by, size-by, one-size}
 use Rattle.next.specs.declared.First.{First}
 use Rattle.next.specs.declared.First.the-variants as first
 use Rattle.next.specs.declared.Next.{Next}
@@ -48,10 +47,10 @@ apart e f n = n (ap released (sym f ∙ e))
 
 module _ (c : ℕ) (p : Pool) (h : Good c p) where
   module _ (q : ℕ) where
-    large-at : (g k : ℕ) → IsLarge c p g k → runBlock g k .place ≡ q → spot c p q ≡ Run g k
+    pub large-at : (g k : ℕ) → IsLarge c p g k → runBlock g k .place ≡ q → spot c p q ≡ Run g k
     large-at g k r at = subst (λ (y : ℕ). spot c p y ≡ Run g k) at (spots.run-found c p h g k r)
 
-    slot-at : (g b s : ℕ) (v : Bool) → IsSlot c p g b s v → slotBlock g b s .place ≡ q → spot c p q ≡ cond v (Slot g b s) (Nowhere freeSlot)
+    pub slot-at : (g b s : ℕ) (v : Bool) → IsSlot c p g b s v → slotBlock g b s .place ≡ q → spot c p q ≡ cond v (Slot g b s) (Nowhere freeSlot)
     slot-at g b s v r at = subst (λ (y : ℕ). spot c p y ≡ cond v (Slot g b s) (Nowhere freeSlot)) at (spots.slot-found c p h g b s v r)
 
     pub by-place : {x : Left ℕ Pool} → Releases c p q x → releaseOf c p q ≡ x
@@ -97,15 +96,6 @@ module _ (c : ℕ) (p : Pool) (h : Good c p) where
         go (Nowhere n) f k = size-by c p h q f ∙ ap (λ (m : ℕ). sized m 0) k
         go (Run g n) f k = absurd (omega arith)
         go (Slot g b s) f k = absurd (omega arith)
-
-  -- at the place of a live block
-  pub live-served : {b : Block} → IsLive c p b → releaseOf c p (b .place) .answer ≡ 0
-  live-served (run g k r) = ap (λ (x : Left ℕ Pool). x .answer) (by-place _ (run-there g k r refl))
-  live-served (slot g b s r) = ap (λ (x : Left ℕ Pool). x .answer) (by-place _ (slot-taken g b s r refl))
-
-  pub live-sized : {b : Block} → IsLive c p b → sizeOf c p (b .place) ≡ sized 0 (b .size)
-  live-sized (run g k r) = size-by c p h _ (large-at _ g k r refl)
-  live-sized (slot g b s r) = size-by c p h _ (slot-at _ g b s true r refl)
 
   -- a freed slot is free
   slot-freed : (g b s : ℕ) → IsSlot c p g b s true → IsSlot c (putSlot 0 p g s) g b s false
@@ -153,11 +143,6 @@ module _ (c : ℕ) (p : Pool) (h : Good c p) where
 -- ---- next
 
 module _ (c : ℕ) (p : Pool) (h : Good c p) (q : ℕ) where
-  -- live blocks at one place have one size
-  one-size : {x y : Block} → IsLive c p x → IsLive c p y → x .place ≡ y .place → x .size ≡ y .size
-  one-size {x} {y} i j e =
-      ap (λ (s : Sized). s .size) (sym (live-sized c p h i) ∙ ap (sizeOf c p) e ∙ live-sized c p h j)
-
   pub by-next : {x : Next} → Nexts c p q x → nextOf c p q ≡ x
   by-next (next-block b m l low) = go (firstFrom q (live c p)) refl
     where
@@ -165,7 +150,7 @@ module _ (c : ℕ) (p : Pool) (h : Good c p) (q : ℕ) where
       go (first.At y z) e =
           let (n, k, least) = live-lowest c p h q y z e in
           let same : y ≡ b .place = omega (arith, least b m l, low (block y z) n k) in
-          next-by c p h q e ∙ ap₂ (answered 0) same (one-size (live-is c p n) (live-is c p m) same)
+          next-by c p h q e ∙ ap₂ (answered 0) same (one-size c p h (live-is c p n) (live-is c p m) same)
       go first.Nothing e = absurd (omega (arith, none-below q (live c p) e b m))
   by-next (no-block f) = next-by c p h q (below-none q (live c p) f)
 

@@ -16,8 +16,9 @@ use Rattle.records.proofs.Flags.{cond-lt, cond-nlt}
 use Rattle.records.proofs.AdmitLaws.{shaped-lengths}
 use Rattle.reserve.specs.Reserve.{reserveOf}
 use Rattle.release.specs.Release.{releaseOf}
+use Rattle.resize.specs.Resize.{resizeOf}
 use Rattle.requestlog.specs.declared.Field.{Field}
-use Rattle.requestlog.specs.declared.Field.the-variants.{Start, Reserve, Release, End}
+use Rattle.requestlog.specs.declared.Field.the-variants.{Start, Reserve, Release, Resize, End}
 use Rattle.requestlog.specs.declared.Cursor.{Cursor}
 use Rattle.requestlog.specs.declared.Read.{Read}
 use Rattle.requestlog.specs.declared.Read.the-variants.{Next, Done, Refused}
@@ -26,11 +27,11 @@ use Rattle.requestlog.proofs.LogLaws.{within-one, cond-cases, read-done, Fine, 
 use Rattle.requestlog.proofs.WriteLaws.{read-written}
 use Rattle.replay.specs.declared.Event.the-variants.{Started, Ended}
 use Rattle.replay.specs.declared.Step.{Step}
-use Rattle.replay.specs.Run.{reserveEvent, releaseEvent, doField, suits, readStep, stepOf, Run, ended, withEvent, onward, runFrom, runAll, runOf}
+use Rattle.replay.specs.Run.{reserveEvent, releaseEvent, resizeEvent, doField, suits, readStep, stepOf, Run, ended, withEvent, onward, runFrom, runAll, runOf}
 use Rattle.replay.proofs.RunLaws.{run-fit}
 use Rattle.replay.proofs.PrefixLaws.{run-next}
 use Rattle.demands.specs.Demand2.{Loggable, logged, inTurn}
-use Rattle.demands.specs.Demand2.{Plays, log-done, log-refused, other-count, start-field, reserve-field, release-field, end-field}
+use Rattle.demands.specs.Demand2.{Plays, log-done, log-refused, other-count, start-field, reserve-field, release-field, resize-field, end-field}
 
 -- a start suits where its count is the pool's
 suits-own : (c : ℕ) → suits c (Start c) ≡ true
@@ -76,6 +77,9 @@ module _ (c : ℕ) (log : List ℕ) where
   by-fields (release-field {k} {j} {p} {q} e later) (suc n) l h =
       let (more, inside) = next-inside k j (Release q) e in
       run-next n c p log k e refl ∙ ap (withEvent (releaseEvent q (releaseOf c p q .answer))) (by-fields later n inside (omega arith))
+  by-fields (resize-field {k} {j} {p} {q} {n = m} e later) (suc n) l h =
+      let (more, inside) = next-inside k j (Resize q m) e in
+      run-next n c p log k e refl ∙ ap (withEvent (resizeEvent q m (resizeOf c p q m .answer))) (by-fields later n inside (omega arith))
   by-fields (end-field {k} {j} {p} e later) (suc n) l h =
       let (more, inside) = next-inside k j End e in
       run-next n c p log k e refl ∙ ap (withEvent Ended) (by-fields later n inside (omega arith))
@@ -90,12 +94,14 @@ module _ (c : ℕ) (log : List ℕ) where
       rw same (start-field (e ∙ ap (λ (m : ℕ). Next (Start m) j) same) r)
   field-plays k j p (Reserve n) x e s r = reserve-field e r
   field-plays k j p (Release q) x e s r = release-field e r
+  field-plays k j p (Resize q n) x e s r = resize-field e r
   field-plays k j p End x e s r = end-field e r
 
   unsuited-plays : (k j : Cursor) (p : Pool) (f : Field) → readAt log k ≡ Next f j → suits c f ≡ false → Plays c log k p (ended 9 (k .at) p)
   unsuited-plays k j p (Start n) e s = other-count e (λ h. false≢true (sym s ∙ ap (λ (m : ℕ). suits c (Start m)) h ∙ suits-own c))
   unsuited-plays k j p (Reserve n) e s = absurd (false≢true (sym s))
   unsuited-plays k j p (Release q) e s = absurd (false≢true (sym s))
+  unsuited-plays k j p (Resize q n) e s = absurd (false≢true (sym s))
   unsuited-plays k j p End e s = absurd (false≢true (sym s))
 
   read-plays : (go : Cursor → Pool → Run) (k : Cursor) (p : Pool) (x : Read) → readAt log k ≡ x
@@ -140,6 +146,7 @@ module _ (c : ℕ) where
   call-plays a b p (Start n) x w r = absurd w
   call-plays a b p (Reserve n) x w r = field-plays c _ _ _ p (Reserve n) x (read-written a b (Reserve n) 1 w refl) refl r
   call-plays a b p (Release q) x w r = field-plays c _ _ _ p (Release q) x (read-written a b (Release q) 1 w refl) refl r
+  call-plays a b p (Resize q n) x w r = field-plays c _ _ _ p (Resize q n) x (read-written a b (Resize q n) 1 w refl) refl r
   call-plays a b p End x w r = absurd w
 
   calls-play : (a : List ℕ) (p : Pool) (calls : List Field) → ((f : Field) → List·Memᴰ f calls → Loggable f)

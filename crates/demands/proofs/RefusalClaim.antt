@@ -26,6 +26,10 @@ use Rattle.release.specs.declared.Spot.{Spot}
 use Rattle.release.specs.declared.Spot.the-variants as spots
 use Rattle.release.specs.Release.{spot, give, releaseOf, sized, sizeAt, sizeOf}
 use Rattle.release.proofs.MeanLaws.{give-kept}
+use Rattle.resize.specs.declared.Resized.{Resized}
+use Rattle.resize.specs.Resize.{resizeOf}
+use Rattle.resize.specs.Resize as resizing
+use Rattle.resize.proofs.MeanLaws.{resize-kept}
 use Rattle.next.specs.declared.First.{First}
 use Rattle.next.specs.declared.First.the-variants.{At, Nothing}
 use Rattle.next.specs.declared.Next.{Next}
@@ -106,6 +110,12 @@ module _ (c : ℕ) (p : Pool) where
   unfolding releaseOf
   release-refuses q =
       refuses-by (admitOf c p) (λ (x : Left ℕ Pool). x .answer) (λ r. leaves r p) (give c p q) (λ r. refl) (give-kept c p q)
+
+  resize-refuses : (q n : ℕ) → Refuses (admitOf c p) (λ x. x .answer .refusal) (λ r. leaves (resizing.refused r) p) (resizeOf c p q n)
+  unfolding resizeOf
+  resize-refuses q n =
+      refuses-by (admitOf c p) (λ (x : Left Resized Pool). x .answer .refusal) (λ r. leaves (resizing.refused r) p) (resizing.resize c p q n) (λ r. refl)
+      (resize-kept c p q n)
 
   size-refuses : (q : ℕ) → Refuses (admitOf c p) (λ x. x .refusal) (λ r. sized r 0) (sizeOf c p q)
   unfolding sizeOf
@@ -206,6 +216,7 @@ demand-1 =
       reserve = reserve-refuses;
       sweep = sweep-refuses;
       release = release-refuses;
+      resize = resize-refuses;
       size = size-refuses;
       next = next-refuses;
       census = census-refuses;

@@ -20,7 +20,7 @@ use Rattle.gaps.specs.declared.Found.the-variants.{At, Nothing}
 use Rattle.gaps.specs.Gaps.{findPages, IsGap}
 use Rattle.gaps.proofs.Answers.{found-place, place-found, nothing-none, none-nothing, free-around}
 use Rattle.blocks.specs.Blocks.{slotBlock, IsSlot}
-use Rattle.blocks.specs.Stores.{Good, Gains}
+use Rattle.blocks.specs.Stores.{Good}
 use Rattle.sweep.specs.declared.Swept.{Swept}
 use Rattle.sweep.specs.Sweep.{swept, sweepOf}
 use Rattle.sweep.specs.Found.{emptyTo}
@@ -33,15 +33,15 @@ use Rattle.reserve.specs.Plans.{PlanOk}
 use Rattle.reserve.specs.declared.Plan.the-variants.{Refuse, TakeSlot, NewClass, NewLarge}
 use Rattle.reserve.proofs.PlanLaws as plans
 use Rattle.reserve.proofs.MeanLaws.{firstRun, first-free, first-before, first-none, first-lowest, lowest-planned, perform-kinds}
-use Rattle.reserve.proofs.ReadyLaws.{room-here, ready-after, ready-full, serve-gains, reserve-serve, reserve-by}
-use Rattle.demands.specs.Demand2.{NoSlot, NoGap, Fewest, Takes, class-pages, large-pages, blockOf}
+use Rattle.reserve.proofs.ReadyLaws.{room-here, ready-after, ready-full, reserve-by}
+use Rattle.demands.specs.Demand2.{NoSlot, NoGap, Fewest, Takes, class-pages, large-pages}
 use Rattle.demands.specs.Demand2.{NoRoom, no-slot, no-run, Places, lowest-slot, new-run, large-run, Reserves, at-once, sweep-first, no-room, too-big}
 
 -- the fewest pages are those that the request is rounded up to
-fewest-once : (n k : ℕ) → 3072 < n → Fewest n k → k ≡ pagesFor n
+pub fewest-once : (n k : ℕ) → 3072 < n → Fewest n k → k ≡ pagesFor n
 fewest-once n k l f = let a = f .holds in let b = f .fewer (k - 1) (omega arith) in omega arith
 
-fewest-made : (n : ℕ) → 3072 < n → (k : ℕ) → suc k ≡ pagesFor n → Fewest n (suc k)
+pub fewest-made : (n : ℕ) → 3072 < n → (k : ℕ) → suc k ≡ pagesFor n → Fewest n (suc k)
 fewest-made n l k e = record { holds = omega arith; fewer = λ j h. omega arith }
 
 -- ---- a plan for n bytes on given records
@@ -240,7 +240,7 @@ size-holds (sweep-first lack r) e = place-holds r
 size-holds (no-room lack) e = absurd (omega arith)
 size-holds (too-big m) e = absurd (omega arith)
 
-place-served : {c : ℕ} {p : Pool} {n : ℕ} {x : Left Reserved Pool} → Places c p n x → x .answer .refusal ≡ 0
+pub place-served : {c : ℕ} {p : Pool} {n : ℕ} {x : Left Reserved Pool} → Places c p n x → x .answer .refusal ≡ 0
 place-served (lowest-slot b g s l f low) = refl
 place-served (new-run b g l f none place) = refl
 place-served (large-run k g l m f place) = refl
@@ -309,11 +309,3 @@ page-stays c p h n room i taken = go (rule c p h n) refl
     go (sweep-first lack r) e = absurd (room lack)
     go (no-room lack) e = refl
     go (too-big m) e = refl
-
--- what is served is put into the live blocks
-pub block-gained : (c : ℕ) (p : Pool) → Good c p → (n : ℕ) → reserveOf c p n .answer .refusal ≡ 0
-    → Gains c p (reserveOf c p n .left) (blockOf (reserveOf c p n .answer))
-block-gained c p h n e =
-    let t = reserve-serve c p h n in
-    subst (λ (x : Left Reserved Pool). Gains c p (x .left) (blockOf (x .answer))) (sym t)
-    (serve-gains c p h n (ap (λ (x : Left Reserved Pool). x .answer .refusal) (sym t) ∙ e))

@@ -1,7 +1,7 @@
 -- Demand 2: every call follows its rules. Assumes nothing.
 use mathlib.Core.Path.{_≡_, refl, sym, ap, _∙_, subst}
 use mathlib.Core.Logic.{by-cases}
-use mathlib.Core.List.{List, _++_, List·Memᴰ, List·Memᴰ·head, List·Memᴰ·tail}
+use mathlib.Core.List.{List, _++_}
 use Prim.Native.Nat.{ℕ, _+_, _*_, _≤_, _<_}
 use native.Mathlib.Decide.{decLe}
 use native.Mathlib.Omega.{arith}
@@ -10,10 +10,13 @@ use Rattle.bitrow.specs.Row.{countBits}
 use Rattle.records.specs.Pool.{Pool}
 use Rattle.records.specs.Calls.{Left, leaves}
 use Rattle.records.proofs.FreshLaws.{fresh-served}
-use Rattle.blocks.specs.Blocks.{Block, live, Ins, here, there}
+use Rattle.blocks.specs.Blocks.{Block, live}
 use Rattle.blocks.specs.Stores.{Good}
 use Rattle.blocks.proofs.ApartLaws.{live-is}
 use Rattle.blocks.proofs.KeepLaws.{good-admit, fresh-empty, fresh-good}
+use Rattle.blocks.proofs.SwapLaws.{ins-in}
+use Rattle.reserve.proofs.ReadyLaws.{reserve-gains}
+use Rattle.release.proofs.MeanLaws.{live-served, live-sized}
 use Rattle.release.specs.Release.{releaseOf}
 use Rattle.sweep.specs.declared.Swept.{Swept}
 use Rattle.sweep.specs.Sweep.{emptyFrom, swept, sweepOf, Sweeps}
@@ -24,15 +27,11 @@ use Rattle.totals.specs.declared.Sums.{Sums}
 use Rattle.totals.specs.Totals.{given, runPages, totalled, summed, totalsOf}
 use Rattle.totals.proofs.PageLaws.{free-read, pages-add, totals-by}
 use Rattle.bytes.proofs.PartLaws.{bytes-cut, bytes-none}
-use Rattle.demands.specs.Demand2.{Reserves, Releases, Nexts, Follows, Demand2}
-use Rattle.demands.proofs.ReserveRules.{by-rule, rule, size-holds, block-gained, page-stays}
+use Rattle.demands.specs.Demand2.{Reserves, Releases, Resizes, Nexts, Follows, Demand2}
+use Rattle.demands.proofs.ReserveRules.{by-rule, rule, size-holds, page-stays}
+use Rattle.demands.proofs.ResizeRules.{by-change, change-rule, swaps-there, resized-holds, grows-by, recut-by, copied}
 use Rattle.demands.proofs.PlayRules.{log-plays, written-plays}
-use Rattle.demands.proofs.PlaceRules.{by-place, place-rule, block-lost, unsized, live-served, live-sized, serves-again, pages-freed, room-freed, by-next, next-rule}
-
--- a block more in a list is in it
-ins-in : {b : Block} {l l′ : List Block} → Ins b l l′ → List·Memᴰ b l′
-ins-in here = List·Memᴰ·head refl
-ins-in (there i) = List·Memᴰ·tail (ins-in i)
+use Rattle.demands.proofs.PlaceRules.{by-place, place-rule, block-lost, unsized, serves-again, pages-freed, room-freed, by-next, next-rule}
 
 totals-sum : (c : ℕ) (p : Pool) → Good c p → totalsOf c p ≡ totalled 0 (length (live c p)) (given (live c p)) (totalsOf c p .free)
 unfolding summed
@@ -75,7 +74,7 @@ follows c p h =
     record {
       reserve = λ n x. (by-rule c p h n, λ e. subst (Reserves c p n) e (rule c p h n));
       holds = λ n. size-holds (rule c p h n);
-      gains = block-gained c p h;
+      gains = reserve-gains c p h;
       stays = page-stays c p h;
       swept = (
         ap (λ (x : Left Swept Pool). x .answer .refusal) (sweep-by c p h),
@@ -93,6 +92,14 @@ follows c p h =
       again = serves-again c p h;
       freed = pages-freed c p h;
       room = room-freed c p h;
+      resize = λ q n x. (by-change c p h q n, λ e. subst (Resizes c p q n) e (change-rule c p h q n));
+      swaps = λ q n x e z. (
+        swaps-there c p h q n x e z,
+        resized-holds c p h (subst (Resizes c p q n) (sym e) (change-rule c p h q n)) z,
+      );
+      grows = λ g k j n r. grows-by c p h g k r n j;
+      recuts = λ g k n r. recut-by c p h g k r n;
+      copies = λ q n x e. copied c p h (subst (Resizes c p q n) (sym e) (change-rule c p h q n));
       size = λ b m. live-sized c p h (live-is c p m);
       unsized = unsized c p h;
       next = λ q x. (by-next c p h q, λ e. subst (Nexts c p q) e (next-rule c p h q));

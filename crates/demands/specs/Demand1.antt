@@ -19,6 +19,8 @@ use Rattle.blocks.specs.Stores.{Good}
 use Rattle.reserve.specs.Reserve.{refused, reserveOf}
 use Rattle.sweep.specs.Sweep.{gained, sweepOf}
 use Rattle.release.specs.Release.{releaseOf, sized, sizeOf}
+use Rattle.resize.specs.Resize.{resizeOf}
+use Rattle.resize.specs.Resize as resizing
 use Rattle.next.specs.Next.{answered, nextOf}
 use Rattle.census.specs.Census.{counted, censusOf}
 use Rattle.totals.specs.Totals.{totalled, totalsOf}
@@ -77,6 +79,7 @@ pub record Demand1 : Type 0 where
   pub reserve : (c : ℕ) (p : Pool) (n : ℕ) → Refuses (admitOf c p) (λ x. x .answer .refusal) (λ r. leaves (refused r) p) (reserveOf c p n)
   pub sweep : (c : ℕ) (p : Pool) → Refuses (admitOf c p) (λ x. x .answer .refusal) (λ r. leaves (gained r 0) p) (sweepOf c p)
   pub release : (c : ℕ) (p : Pool) (q : ℕ) → Refuses (admitOf c p) (λ x. x .answer) (λ r. leaves r p) (releaseOf c p q)
+  pub resize : (c : ℕ) (p : Pool) (q n : ℕ) → Refuses (admitOf c p) (λ x. x .answer .refusal) (λ r. leaves (resizing.refused r) p) (resizeOf c p q n)
   pub size : (c : ℕ) (p : Pool) (q : ℕ) → Refuses (admitOf c p) (λ x. x .refusal) (λ r. sized r 0) (sizeOf c p q)
   pub next : (c : ℕ) (p : Pool) (q : ℕ) → Refuses (admitOf c p) (λ x. x .refusal) (λ r. answered r 0 0) (nextOf c p q)
   pub census : (c : ℕ) (p : Pool) (room : List ℕ)

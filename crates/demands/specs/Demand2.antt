@@ -3,39 +3,45 @@
 -- freed slot serves its class again; the pages of a freed run count as free for any request."; and as request 1 of the engineer's twelve has
 -- it: "When 4 is due, every class run with no taken slot counts as free pages and the search is made once more; 4 is given exactly when that
 -- finds nothing too. If the second search succeeds, all such runs are given back and the block is taken; if not, the records stay unchanged."
+-- Request 2: "A slot whose class, or a large run whose page count, doesn't change stays. A large run that stays large shrinks by giving back its
+-- last pages, or grows when enough pages right behind it are free, unswept. Else a new block is reserved by the usual rules while the old one is
+-- live, and then the old one is released"
 -- It is said of what the calls answer and leave on sound records, for every number of chunks, size and place; what they answer on others is
 -- in Demand1. Assumes nothing.
 use mathlib.Core.Path.{_≡_}
-use mathlib.Core.Logic.{_≢_, _↔_}
+use mathlib.Core.Logic.{_≢_, _⊎_, _↔_}
 use mathlib.Core.Bool.{Bool, true, false}
 use mathlib.Core.List.{List, [], _∷_, _++_, List·Memᴰ}
-use Prim.Native.Nat.{ℕ, suc, _+_, _*_, _≤_, _<_}
+use Prim.Native.Nat.{ℕ, suc, _+_, _*_, _≤_, _<_, min}
 use lib.ListN.{length, take, drop}
 use Rattle.refusals.specs.Refusals.{tooBig, noRoom, noBlock, freeSlot, shortRoom, badField}
-use Rattle.classes.specs.Classes.{pages, Smallest}
+use Rattle.classes.specs.Classes.{size, pages, Smallest}
 use Rattle.records.specs.declared.Kind.the-variants.{Free, Large, Class}
 use Rattle.records.specs.Kinds.{zeros, wordsOf}
 use Rattle.records.specs.Pool.{Pool, kindAt}
 use Rattle.records.specs.Calls.{fit, Left, leaves, freshOf}
 use Rattle.gaps.specs.Gaps.{HoldsNone, IsPlace}
 use Rattle.blocks.specs.Blocks.{Block, block, slotBlock, runBlock, IsSlot, IsLarge, live}
-use Rattle.blocks.specs.Stores.{putRun, putSlot, Good, Gains, Loses}
+use Rattle.blocks.specs.Stores.{putRun, putSlot, Good, Gains, Loses, Swaps}
 use Rattle.reserve.specs.declared.Reserved.{Reserved}
 use Rattle.reserve.specs.Reserve.{refused, slotGiven, runGiven, reserveOf}
 use Rattle.sweep.specs.Sweep.{sweepOf, Sweeps}
 use Rattle.release.specs.Release.{releaseOf, sized, sizeOf}
+use Rattle.resize.specs.declared.Resized.{Resized}
+use Rattle.resize.specs.Resize.{FreeBehind, recut, kept, moved, resizeOf}
+use Rattle.resize.specs.Resize as resizing
 use Rattle.next.specs.declared.Next as next
 use Rattle.next.specs.Next.{answered, nextOf}
 use Rattle.census.specs.Census.{wordsFor, counted, censusOf}
 use Rattle.totals.specs.Totals.{given, runPages, totalled, totalsOf}
 use Rattle.bytes.specs.Bytes.{chosen, earFits, bytesOf, bytesRefusalOf}
 use Rattle.requestlog.specs.declared.Field.{Field}
-use Rattle.requestlog.specs.declared.Field.the-variants.{Start, Reserve, Release, End}
+use Rattle.requestlog.specs.declared.Field.the-variants.{Start, Reserve, Release, Resize, End}
 use Rattle.requestlog.specs.declared.Cursor.{Cursor}
 use Rattle.requestlog.specs.declared.Read.the-variants.{Next, Done, Refused}
 use Rattle.requestlog.specs.Log.{written, outset, readAt}
 use Rattle.replay.specs.declared.Event.the-variants.{Started, Ended}
-use Rattle.replay.specs.Run.{reserveEvent, releaseEvent, doField, Run, ended, withEvent, runOf}
+use Rattle.replay.specs.Run.{reserveEvent, releaseEvent, resizeEvent, doField, Run, ended, withEvent, runOf}
 
 -- ---- reserve (RULES 5.2)
 
@@ -108,6 +114,64 @@ pub data Releases (c : ℕ) (p : Pool) (q : ℕ) : Left ℕ Pool → Type 0 wher
   nothing : ((g k : ℕ) → IsLarge c p g k → runBlock g k .place ≢ q)
       → ((g b s : ℕ) (taken : Bool) → IsSlot c p g b s taken → slotBlock g b s .place ≢ q) → Releases c p q (leaves noBlock p)
 
+-- ---- resize (RULES 5.6)
+
+-- n bytes are more than a slot holds, and take a large run of k pages
+pub record TakesRun (n k : ℕ) : Type 0 where
+  pub large : 3072 < n
+  pub most : n ≤ 2093056
+  pub fewest : Fewest n k
+
+-- the block at the place q cannot stay where n bytes are asked for
+pub data Moves (c : ℕ) (p : Pool) (q n : ℕ) : Type 0 where
+  -- a slot that is not of the class of n bytes
+  other-class : (g b s : ℕ) → IsSlot c p g b s true → slotBlock g b s .place ≡ q → n ≤ 2093056 → (Smallest n b → ⊥) → Moves c p q n
+  -- a large run, and a slot holds n bytes
+  slot-enough : (g k : ℕ) → IsLarge c p g k → runBlock g k .place ≡ q → n ≤ 3072 → Moves c p q n
+  -- a large run that needs more pages, and not all of those right behind it are free
+  pages-taken : (g k j : ℕ) → IsLarge c p g k → runBlock g k .place ≡ q → TakesRun n (suc j) → k < j → (FreeBehind p g k j → ⊥) → Moves c p q n
+
+-- what a resize of the block at the place q to n bytes answers and leaves. `recut p g k j`: the large run at page g has j pages behind its
+-- first in place of k
+pub data Resizes (c : ℕ) (p : Pool) (q n : ℕ) : Left Resized Pool → Type 0 where
+  -- no block is there: 5 or 6, as a release of the place answers
+  none-there : (r : ℕ) → releaseOf c p q .answer ≡ suc r → Resizes c p q n (leaves (resizing.refused (suc r)) p)
+  -- one is, and too much is asked for
+  over-most : releaseOf c p q .answer ≡ 0 → 2093056 < n → Resizes c p q n (leaves (resizing.refused tooBig) p)
+  -- a slot of the class of n bytes stays as it is
+  slot-stays : (g b s : ℕ) → IsSlot c p g b s true → slotBlock g b s .place ≡ q → Smallest n b → Resizes c p q n (leaves (kept q (size b)) p)
+  -- so does a large run of the pages that they take
+  run-stays : (g k : ℕ) → IsLarge c p g k → runBlock g k .place ≡ q → TakesRun n (suc k) → Resizes c p q n (leaves (kept q (4096 * suc k)) p)
+  -- one that has more pages keeps these
+  run-shrinks : (g k j : ℕ) → IsLarge c p g k → runBlock g k .place ≡ q → TakesRun n (suc j) → j < k
+      → Resizes c p q n (leaves (kept q (4096 * suc j)) (recut p g k j))
+  -- one that has fewer takes those right behind it, where they are free
+  run-grows : (g k j : ℕ) → IsLarge c p g k → runBlock g k .place ≡ q → TakesRun n (suc j) → k < j → FreeBehind p g k j
+      → Resizes c p q n (leaves (kept q (4096 * suc j)) (recut p g k j))
+  -- any other block is moved: n bytes are reserved while it is live, and then it is released
+  moves : Moves c p q n → reserveOf c p n .answer .refusal ≡ 0
+      → Resizes c p q n (leaves (moved (reserveOf c p n .answer) (sizeOf c p q .size) n) (releaseOf c (reserveOf c p n .left) q .left))
+  -- unless there is no room
+  cannot-move : Moves c p q n → reserveOf c p n .answer .refusal ≡ noRoom → Resizes c p q n (leaves (resizing.refused noRoom) p)
+
+-- what became of the pages where the large run at page g, with k pages behind its first, was kept with z bytes
+pub record Recuts (p left : Pool) (g k z : ℕ) : Type 0 where
+  -- those that it got were free
+  pub got : (i : ℕ) → g + suc k ≤ i → 4096 * i < 4096 * g + z → kindAt p i ≡ Free
+  -- those that it gave back are free
+  pub gave : (i : ℕ) → i < g + suc k → 4096 * g + z ≤ 4096 * i → kindAt left i ≡ Free
+  -- and those that it never had are what they were
+  pub others : (i : ℕ) → (i < g) ⊎ ((g + suc k ≤ i) × (4096 * g + z ≤ 4096 * i)) → kindAt left i ≡ kindAt p i
+
+-- what the caller has to copy where a resize of the block at the place q, of so many bytes, to n bytes answers r
+pub record Copies (q old n : ℕ) (r : Resized) : Type 0 where
+  -- no more than the old block has, nor than the new one has
+  pub within : (r .copy ≤ old) × (r .copy ≤ r .size)
+  -- where the block is kept it has its place, and nothing is to be copied
+  pub keeps : r .how ≡ 1 → (r .place ≡ q) × (r .copy ≡ 0)
+  -- where it is moved, all that both sizes hold; and the new block shares no byte with the old one
+  pub carries : r .how ≡ 2 → (r .copy ≡ min old n) × ((i : ℕ) → q ≤ i → i < q + old → r .place ≤ i → i < r .place + r .size → ⊥)
+
 -- ---- next (RULES 6.3)
 
 -- what it answers for the place q
@@ -132,19 +196,22 @@ pub data Plays (c : ℕ) (log : List ℕ) : Cursor → Pool → Run → Type 0 w
   -- a start is a fresh call
   start-field : {k j : Cursor} {p : Pool} {x : Run} → readAt log k ≡ Next (Start c) j → Plays c log j (freshOf c p .left) x
       → Plays c log k p (withEvent (Started c) x)
-  -- a reserve and a release are these calls on the pool at that point, refused ones too
+  -- a reserve, a release and a resize are these calls on the pool at that point, refused ones too
   reserve-field : {k j : Cursor} {p : Pool} {n : ℕ} {x : Run} → readAt log k ≡ Next (Reserve n) j → Plays c log j (reserveOf c p n .left) x
       → Plays c log k p (withEvent (reserveEvent n (reserveOf c p n .answer)) x)
   release-field : {k j : Cursor} {p : Pool} {q : ℕ} {x : Run} → readAt log k ≡ Next (Release q) j → Plays c log j (releaseOf c p q .left) x
       → Plays c log k p (withEvent (releaseEvent q (releaseOf c p q .answer)) x)
+  resize-field : {k j : Cursor} {p : Pool} {q n : ℕ} {x : Run} → readAt log k ≡ Next (Resize q n) j → Plays c log j (resizeOf c p q n .left) x
+      → Plays c log k p (withEvent (resizeEvent q n (resizeOf c p q n .answer)) x)
   -- the end changes nothing
   end-field : {k j : Cursor} {p : Pool} {x : Run} → readAt log k ≡ Next End j → Plays c log j p x → Plays c log k p (withEvent Ended x)
 
--- a call that a log can hold: a reserve or a release, of a number of 32 bits
+-- a call that a log can hold: a reserve, a release or a resize, of numbers of 32 bits
 abbrev pub Loggable : Field → Type 0
 Loggable (Start n) = ⊥
 Loggable (Reserve n) = n < 4294967296
 Loggable (Release q) = q < 4294967296
+Loggable (Resize q n) = (q < 4294967296) × (n < 4294967296)
 Loggable End = ⊥
 
 -- such calls as fields, with the end behind them
@@ -189,6 +256,18 @@ pub record Follows (c : ℕ) (p : Pool) : Type 0 where
   pub freed : (g k : ℕ) → IsLarge c p g k → (i : ℕ) → g ≤ i → i < g + suc k → kindAt (releaseOf c p (runBlock g k .place) .left) i ≡ Free
   pub room : (g k : ℕ) → IsLarge c p g k → (n m : ℕ) → Takes n m → m ≤ suc k
       → reserveOf c (releaseOf c p (runBlock g k .place) .left) n .answer .refusal ≡ 0
+  -- a resize answers and leaves what a rule says, over every place and size
+  pub resize : (q n : ℕ) (x : Left Resized Pool) → Resizes c p q n x ↔ (resizeOf c p q n ≡ x)
+  -- one that is served: the answered block is live in place of the one at q, and all others are as they were; it holds what is asked for
+  pub swaps : (q n : ℕ) (x : Left Resized Pool) → x ≡ resizeOf c p q n → x .answer .refusal ≡ 0
+      → Swaps c p (x .left) (block q (sizeOf c p q .size)) (block (x .answer .place) (x .answer .size)) × (n ≤ x .answer .size)
+  -- a run that needs more pages is kept exactly where those right behind it are free
+  pub grows : (g k j n : ℕ) → IsLarge c p g k → TakesRun n (suc j) → k < j → FreeBehind p g k j ↔ (resizeOf c p (runBlock g k .place) n .answer .how ≡ 1)
+  -- of a kept run no page is taken but its own, and none is given back but its last
+  pub recuts : (g k n : ℕ) → IsLarge c p g k → (x : Left Resized Pool) → x ≡ resizeOf c p (runBlock g k .place) n → x .answer .how ≡ 1
+      → Recuts p (x .left) g k (x .answer .size)
+  -- it tells what is to be copied
+  pub copies : (q n : ℕ) (x : Left Resized Pool) → x ≡ resizeOf c p q n → Copies q (sizeOf c p q .size) n (x .answer)
   -- block size gives the size of each live block, and is refused where a release is
   pub size : (b : Block) → List·Memᴰ b (live c p) → sizeOf c p (b .place) ≡ sized 0 (b .size)
   pub unsized : (q r : ℕ) → releaseOf c p q .answer ≡ suc r → sizeOf c p q ≡ sized (suc r) 0

@@ -17,10 +17,11 @@ use Rattle.blocks.specs.Blocks.{Block, block, Rising}
 use Rattle.reserve.specs.Reserve.{reserveOf}
 use Rattle.sweep.specs.Sweep.{sweepOf}
 use Rattle.release.specs.Release.{releaseOf}
+use Rattle.resize.specs.Resize.{resizeOf}
 use Rattle.census.specs.Census.{wordsFor, counted, censusOf}
 use Rattle.replay.specs.declared.Event.{Event}
-use Rattle.replay.specs.declared.Event.the-variants.{Started, Served, Denied, Freed, Unfreed, Ended}
-use Rattle.replay.specs.Run.{reserveEvent, releaseEvent, runOf, replayOf}
+use Rattle.replay.specs.declared.Event.the-variants.{Started, Served, Denied, Freed, Unfreed, Kept, Moved, Unresized, Ended}
+use Rattle.replay.specs.Run.{reserveEvent, releaseEvent, resizeEvent, runOf, replayOf}
 use Rattle.lines.specs.Lines.{linesRoom, printedOf}
 
 -- ---- the book: a list of blocks, each a place and a size
@@ -31,13 +32,17 @@ takeOut q [] = []
 takeOut q (b ∷ l) = let later = takeOut q l in cond (eqb (b .place) q) l (b ∷ later)
 
 -- what one call books, by its answer: an accepted fresh call empties the book, a served reserve puts in the answered place and size, a
--- served release takes out the block at the place that it named; nothing else changes it
+-- served release takes out the block at the place that it named, a served resize does both: kept, the block is put in at the same place;
+-- nothing else changes it
 unfoldable pub note : Event → List Block → List Block
 note (Started n) book = []
 note (Served n q z) book = block q z ∷ book
 note (Denied n r) book = book
 note (Freed q) book = takeOut q book
 note (Unfreed q r) book = book
+note (Kept q n z) book = block q z ∷ takeOut q book
+note (Moved q n to z) book = block to z ∷ takeOut q book
+note (Unresized q n r) book = book
 note Ended book = book
 
 -- several calls in turn
@@ -54,6 +59,8 @@ pub data Call : Type 0 where
   reserve : ℕ → ℕ → Call
   -- c, place
   release blockSize next : ℕ → ℕ → Call
+  -- c, place, size
+  resize : ℕ → ℕ → ℕ → Call
   -- c, room
   census : ℕ → List ℕ → Call
   -- c, log
@@ -76,6 +83,7 @@ unfoldable pub call : Call → State → State
 call (fresh c) x = state (freshOf c (x .pool) .left) (cond (eqb (freshOf c (x .pool) .answer) 0) (note (Started c) (x .book)) (x .book))
 call (reserve c n) x = state (reserveOf c (x .pool) n .left) (note (reserveEvent n (reserveOf c (x .pool) n .answer)) (x .book))
 call (release c q) x = state (releaseOf c (x .pool) q .left) (note (releaseEvent q (releaseOf c (x .pool) q .answer)) (x .book))
+call (resize c q n) x = state (resizeOf c (x .pool) q n .left) (note (resizeEvent q n (resizeOf c (x .pool) q n .answer)) (x .book))
 -- a sweep books nothing
 call (sweep c) x = state (sweepOf c (x .pool) .left) (x .book)
 -- its fields in turn: all of an accepted log, else those before the position, none at refusal 1

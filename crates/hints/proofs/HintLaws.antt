@@ -1,9 +1,9 @@
--- The hints are kept by each plan that is performed, and by what is given back. Assumes nothing.
+-- The hints are kept by each plan that is performed, by what is given back, and by a run that is cut anew. Assumes nothing.
 use mathlib.Core.Path.{_≡_, refl, sym, ap, ap₂, _∙_, subst}
 use mathlib.Core.Logic.{_≢_, by-cases}
 use mathlib.Core.Bool.{Bool, true, false, _&&_, false≢true}
 use mathlib.Core.List.{List}
-use Prim.Native.Nat.{ℕ, _+_, _-_, _*_, _≤_, _<_, min}
+use Prim.Native.Nat.{ℕ, suc, _+_, _-_, _*_, _≤_, _<_, min}
 use native.Mathlib.Decide.{ℕ-discrete, decLt}
 use native.Mathlib.Omega.{arith}
 use lib.Dec.{ltb}
@@ -15,7 +15,7 @@ use Rattle.bitrow.proofs.Marks.{put-bit-other}
 use Rattle.classes.specs.Classes.{slots, pages, classFor}
 use Rattle.classes.proofs.ClassLaws.{any-row}
 use Rattle.records.specs.declared.Kind.the-variants.{Class}
-use Rattle.records.specs.Kinds.{behind, wordsOf, isRunOf}
+use Rattle.records.specs.Kinds.{zeros, behind, wordsOf, isRunOf}
 use Rattle.records.specs.Pool.{Pool, kindAt}
 use Rattle.records.specs.Calls.{admitOf, leaves}
 use Rattle.records.proofs.Flags.{flag-eq, lt-cases, le-cases}
@@ -24,10 +24,10 @@ use Rattle.records.proofs.AdmitLaws.{Shape, admitted, shaped-lengths}
 use Rattle.gaps.specs.declared.Found.{Found}
 use Rattle.gaps.specs.declared.Found.the-variants.{At, Nothing}
 use Rattle.gaps.specs.Gaps.{findPages}
-use Rattle.blocks.specs.Blocks.{IsSlot}
-use Rattle.blocks.specs.Stores.{putRun, putSlot}
+use Rattle.blocks.specs.Blocks.{IsSlot, IsLarge}
+use Rattle.blocks.specs.Stores.{putRun, putSlot, Good}
 use Rattle.blocks.proofs.StoreLaws.{slot-kinds, slot-same}
-use Rattle.blocks.proofs.KeepLaws.{admit-good, take-large, free-large, take-class}
+use Rattle.blocks.proofs.KeepLaws.{admit-good, good-admit, give-large, take-large, free-large, take-class}
 use Rattle.reserve.specs.declared.Reserved.{Reserved}
 use Rattle.reserve.specs.declared.Plan.{Plan}
 use Rattle.reserve.specs.declared.Plan.the-variants.{Refuse, TakeSlot, NewClass, NewLarge}
@@ -40,6 +40,11 @@ use Rattle.release.specs.declared.Spot.{Spot}
 use Rattle.release.specs.declared.Spot.the-variants.{Nowhere, Run, Slot}
 use Rattle.release.specs.Release.{spot, giveBack}
 use Rattle.release.proofs.GiveLaws.{There, there}
+use Rattle.resize.specs.declared.Change.{Change}
+use Rattle.resize.specs.declared.Change.the-variants as changes
+use Rattle.resize.specs.Resize.{change, recut}
+use Rattle.resize.specs.Settle.{settled}
+use Rattle.resize.proofs.ChangeLaws.{ChangeOk, change-ok}
 use Rattle.hints.specs.Hints.{Hints, carried, noted, notedSlot, notedPlan, notedSpot}
 use Rattle.hints.proofs.HasLaws.{run-has, other-class, slot-has}
 use Rattle.hints.proofs.RowLaws.{same, kept}
@@ -215,3 +220,25 @@ module _ (c : ℕ) (p : Pool) (ok : admitOf c p ≡ 0) (l : List ℕ) (h : Hints
   spot-noted q x e r f m g =
       let d = gave q x (subst (There c p q) (sym e) (there c p q)) in
       subst (λ (u : Pool). Hints c u m) (sym f) (subst (Hints c (giveBack p x)) (sym g) d)
+
+-- ---- a block that stays where it is
+
+pub settle-noted : (c : ℕ) (p : Pool) → admitOf c p ≡ 0 → {l : List ℕ} → Hints c p l → (q n : ℕ) {x : Spot} → x ≡ spot c p q
+    → {w : Pool} → w ≡ settled p (change (p .bits) x n) → Hints c w l
+unfolding settled recut
+settle-noted c p ok {l} h q n {x} s {w} e =
+    subst (λ (u : Pool). Hints c u l) (sym e) (go (change (p .bits) x n) (change-ok c p good n q x there-at))
+  where
+    good : Good c p
+    good = admit-good c p ok
+
+    there-at : There c p q x
+    there-at = subst (There c p q) (sym s) (there c p q)
+
+    go : (y : Change) → ChangeOk c p x n y → Hints c (settled p y) l
+    go (changes.Refuse r) k = h
+    go (changes.Stay z) k = h
+    go (changes.Recut g k j) (is, free, few) =
+        let (r, at) : IsLarge c p g k × _ = subst (There c p q) is there-at in
+        new-large c (putRun 0 p g (zeros (suc k))) (good-admit c _ (give-large c p good g k r .good)) l (gave-run c p ok l h q g k (r, at)) g j free
+    go (changes.Move z) k = h

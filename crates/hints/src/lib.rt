@@ -1,4 +1,4 @@
-// Reserve and release for a caller that owns sound records and makes many calls: a row of hints is kept beside the records, so that a
+// Reserve, release and resize for a caller that owns sound records and makes many calls: a row of hints is kept beside the records, so that a
 // free slot is found without a walk over the pages, and a class's numbers without its constants.
 use refusals::NO_BLOCK;
 ghost use mathlib.Core.Path.{_≡_};
@@ -12,6 +12,7 @@ ghost use Rattle.records.specs.Calls.{admitOf, leaves};
 ghost use Rattle.reserve.specs.Reserve.{slotPage, planSlot, plan, serve};
 ghost use Rattle.reserve.specs.Plans.{PlanSize};
 ghost use Rattle.release.specs.Release.{spot, give};
+ghost use Rattle.resize.specs.Resize.{moving, resize};
 ghost use Rattle.hints.specs.Hints.{Cuts, Hints, Cleared, Fresh, RowMasked, Masked, carried, IsPlan, noted, notedSlot, notedPlan, notedSpot, PlanNear, SpotNear};
 
 // All numbers get 0.
@@ -297,4 +298,52 @@ pub fn release_hinted(
     let x = spot_hinted(c, bits, words, slots, q, hints);
     note_spot(hints, x);
     release::give_back(c, bits, words, slots, x)
+}
+
+// Moves the block of z bytes at the place q, for n bytes, with hints.
+fn move_hinted(
+    c: u64,
+    bits: &mut [u64],
+    words: &mut [u32],
+    slots: &mut [u64],
+    q: u64,
+    n: u64,
+    z: u64,
+    hints: &mut [u64],
+) -> resize::Resized
+    requires { ⌜ (admitOf c (lent bits words slots) ≡ 0) × (Hints c (lent bits words slots) (now hints)) ⌝ }
+    ensures given { λ r. ⌜ leaves r (after bits words slots) ≡ moving c (before bits words slots) q z n ⌝ }
+    ensures hinted { λ r. ⌜ Hints c (after bits words slots) (now (hints .exit)) ⌝ }
+{
+    let r = reserve_hinted(c, bits, words, slots, n, hints);
+    if r.refusal != 0 {
+        return resize::refused(r.refusal);
+    }
+    release_hinted(c, bits, words, slots, q, hints);
+    resize::moved(r, z, n)
+}
+
+// The work of a resize, with hints.
+pub fn resize_hinted(
+    c: u64,
+    bits: &mut [u64],
+    words: &mut [u32],
+    slots: &mut [u64],
+    q: u64,
+    n: u64,
+    hints: &mut [u64],
+) -> resize::Resized
+    requires { ⌜ (admitOf c (lent bits words slots) ≡ 0) × (Hints c (lent bits words slots) (now hints)) ⌝ }
+    ensures given { λ r. ⌜ leaves r (after bits words slots) ≡ resize c (before bits words slots) q n ⌝ }
+    ensures hinted { λ r. ⌜ Hints c (after bits words slots) (now (hints .exit)) ⌝ }
+{
+    let x = spot_hinted(c, bits, words, slots, q, hints);
+    match resize::settle(c, bits, words, slots, q, n, x) {
+        resize::Settled::Over(r) => {
+            return r;
+        }
+        resize::Settled::Moving(z) => {
+            return move_hinted(c, bits, words, slots, q, n, z, hints);
+        }
+    }
 }

@@ -6,6 +6,7 @@ ghost use Rattle.records.specs.Calls.{admitOf, leaves, freshOf};
 ghost use Rattle.reserve.specs.Reserve.{reserveOf};
 ghost use Rattle.sweep.specs.Sweep.{sweepOf};
 ghost use Rattle.release.specs.Release.{releaseOf, sizeOf};
+ghost use Rattle.resize.specs.Resize.{resizeOf};
 ghost use Rattle.next.specs.Next.{nextOf};
 ghost use Rattle.census.specs.Census.{censusOf};
 ghost use Rattle.totals.specs.Totals.{totalsOf};
@@ -127,6 +128,25 @@ pub extern "C" fn lensember_release(
         return a;
     }
     release::release_sound(c, bits, words, slots, place)
+}
+
+// Resize (RULES 5.6): where the block is and what was given, kept or moved, or refusal 1, 2, 5, 6, 3 or 4 and nothing is changed.
+#[no_mangle]
+pub extern "C" fn lensember_resize(
+    c: u64,
+    bits: &mut [u64],
+    words: &mut [u32],
+    slots: &mut [u64],
+    place: u64,
+    size: u64,
+) -> resize::Resized
+    ensures { λ r. ⌜ leaves r (after bits words slots) ≡ resizeOf c (before bits words slots) place size ⌝ }
+{
+    let a = admit::admit(c, bits, words, slots);
+    if a != 0 {
+        return resize::refused(a);
+    }
+    resize::resize_sound(c, bits, words, slots, place, size)
 }
 
 // Sweep (RULES 5.5): the pages gained, or refusal 1 or 2 and nothing is changed.

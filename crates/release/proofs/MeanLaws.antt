@@ -1,6 +1,6 @@
 -- What release and block size do to sound records. Assumes nothing.
-use mathlib.Core.Path.{_≡_, refl, sym, ap, _∙_, subst}
-use mathlib.Core.Bool.{Bool, cond}
+use mathlib.Core.Path.{_≡_, refl, sym, ap, ap₂, _∙_, subst}
+use mathlib.Core.Bool.{Bool, true, cond}
 use Prim.Native.Nat.{ℕ, zero, suc, _+_, _-_, _*_, _/_, _%_, _≤_, _<_}
 use native.Mathlib.Nat.{mul-le-mul-right, mul-mod-left, mul-div-left}
 use native.Mathlib.Omega.{arith}
@@ -16,7 +16,7 @@ use Rattle.records.specs.Pool.{Pool, kindAt, slotAt}
 use Rattle.records.specs.Calls.{admitOf, Left, leaves}
 use Rattle.records.specs.Runs.{InRun}
 use Rattle.records.proofs.Flags.{cond-eq, cond-lt}
-use Rattle.blocks.specs.Blocks.{Block, slotBlock, runBlock, IsSlot, IsLarge}
+use Rattle.blocks.specs.Blocks.{Block, block, slotBlock, runBlock, IsSlot, IsLarge, IsLive, run, slot}
 use Rattle.blocks.specs.Stores.{Good, Loses}
 use Rattle.blocks.proofs.ApartLaws.{live-inside}
 use Rattle.blocks.proofs.KeepLaws.{give-large, give-slot, run-whole, admit-good, good-admit}
@@ -38,6 +38,18 @@ gone c p h q (Nowhere r) (idle g b s x at) e = absurd (omega arith)
 gone c p h q (Run g k) (x, at) e = (runBlock g k, at, refl, give-large c p h g k x)
 gone c p h q (Slot g b s) (x, at) e = (slotBlock g b s, at, refl, give-slot c p h g b s x)
 
+given : (x : Spot) → sizeAt x .refusal ≡ 0 → released x ≡ 0
+given (Nowhere r) e = e
+given (Run g n) e = e
+given (Slot g b s) e = e
+
+-- of z bytes
+pub block-at : (c : ℕ) (p : Pool) → Good c p → (q : ℕ) (x : Spot) → There c p q x → (z : ℕ) → sizeAt x ≡ sized 0 z → Loses c p (giveBack p x) (block q z)
+block-at c p h q x t z e =
+    let (b, at, n, l) = gone c p h q x t (given x (ap (λ (s : Sized). s .refusal) e)) in
+    let size : b .size ≡ z = ap (λ (s : Sized). s .size) (sym n ∙ e) in
+    subst (Loses c p (giveBack p x)) (ap₂ block at size) l
+
 -- n bytes from the place q on: some, and all of them in a pool of c chunks
 pub record InPool (c q n : ℕ) : Type 0 where
   pub some : 0 < n
@@ -49,11 +61,6 @@ spot-inside c p h q x t e =
     let (z, i) = live-inside c p h (l .less) in
     let k : sizeAt x .size ≡ b .size = ap (λ (s : Sized). s .size) n in
     record { some = omega arith; inside = omega arith }
-  where
-    given : (x : Spot) → sizeAt x .refusal ≡ 0 → released x ≡ 0
-    given (Nowhere r) e = e
-    given (Run g n) e = e
-    given (Slot g b s) e = e
 
 -- so lies a block whose size is given
 pub size-inside : (c : ℕ) (p : Pool) (q : ℕ) → sizeOf c p q .refusal ≡ 0 → InPool c q (sizeOf c p q .size)
@@ -133,6 +140,20 @@ release-by c p h q e = release-give c p h q ∙ ap (λ (x : Spot). leaves (relea
 -- block size too
 pub size-by : (c : ℕ) (p : Pool) → Good c p → (q : ℕ) {x : Spot} → spot c p q ≡ x → sizeOf c p q ≡ sizeAt x
 size-by c p h q e = sym (size-served c p q 0 (sym (good-admit c p h)) refl refl) ∙ ap sizeAt e
+
+-- at the place of a live block
+module _ (c : ℕ) (p : Pool) (h : Good c p) where
+  pub live-served : {b : Block} → IsLive c p b → releaseOf c p (b .place) .answer ≡ 0
+  live-served (run g k r) = ap (λ (x : Left ℕ Pool). x .answer) (release-by c p h _ (run-found c p h g k r))
+  live-served (slot g b s r) = ap (λ (x : Left ℕ Pool). x .answer) (release-by c p h _ (slot-found c p h g b s true r))
+
+  pub live-sized : {b : Block} → IsLive c p b → sizeOf c p (b .place) ≡ sized 0 (b .size)
+  live-sized (run g k r) = size-by c p h _ (run-found c p h g k r)
+  live-sized (slot g b s r) = size-by c p h _ (slot-found c p h g b s true r)
+
+  -- live blocks at one place have one size
+  pub one-size : {x y : Block} → IsLive c p x → IsLive c p y → x .place ≡ y .place → x .size ≡ y .size
+  one-size i j e = ap (λ (s : Sized). s .size) (sym (live-sized i) ∙ ap (sizeOf c p) e ∙ live-sized j)
 
 pub release-good : (c : ℕ) (p : Pool) → Good c p → (q : ℕ) → Good c (releaseOf c p q .left)
 release-good c p h q = subst (λ (x : Left ℕ Pool). Good c (x .left)) (sym (release-give c p h q)) (go (give c p q .answer) refl)

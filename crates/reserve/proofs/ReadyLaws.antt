@@ -225,6 +225,14 @@ reserve-by c p h n {q} f e =
     reserve-serve c p h n ∙ ap (λ (r : Pool). leaves (answer (plan c r n)) (perform r (plan c r n))) f
     ∙ ap (λ (x : Plan). leaves (answer x) (perform q x)) e
 
+-- what is served is put into the live blocks
+pub reserve-gains : (c : ℕ) (p : Pool) → Good c p → (n : ℕ) → reserveOf c p n .answer .refusal ≡ 0
+    → Gains c p (reserveOf c p n .left) (block (reserveOf c p n .answer .place) (reserveOf c p n .answer .size))
+reserve-gains c p h n e =
+    let s = reserve-serve c p h n in
+    subst (λ (x : Left Reserved Pool). Gains c p (x .left) (block (x .answer .place) (x .answer .size))) (sym s)
+    (serve-gains c p h n (ap (λ (x : Left Reserved Pool). x .answer .refusal) (sym s) ∙ e))
+
 pub reserve-good : (c : ℕ) (p : Pool) → Good c p → (n : ℕ) → Good c (reserveOf c p n .left)
 reserve-good c p h n =
     subst (λ (x : Left Reserved Pool). Good c (x .left)) (sym (reserve-serve c p h n)) (go (serve c p n .answer .refusal) refl)
