@@ -1,8 +1,8 @@
 # The archive for C programs, and what is run against it.
 #
 #   make all           proves the library and the programs, and puts
-#                      build/liblensember.a, build/replay, build/map and
-#                      build/paint together
+#                      build/liblensember.a, build/replay, build/map,
+#                      build/paint, build/import and build/export together
 #   make test          the one test command: proofs, then the host tests
 #   make host-test     the host tests alone, those that tests/programs.txt lists
 #   make NAME-test     one of these alone, by its name there
@@ -14,16 +14,19 @@
 #   make fuzz          libFuzzer over all calls for FUZZ_SECONDS (300), from the
 #                      seeds in fuzz/; installs Debian's clang. What it finds is
 #                      put into build/, and build/seeds FILE runs it again
-#   make install       header, archive, pkg-config file, program and man pages,
+#   make install       header, archive, pkg-config file, programs and man pages,
 #                      below PREFIX (/usr/local); DESTDIR is put before it
 #   make uninstall     removes what install put there
 #   make bench         the record check, then the other calls, against a plain OR
 #                      over the same records; GATE=1.5 makes it fail when the
 #                      check is above that ratio; then replays, against a plain
-#                      pool, malloc, and PHP's allocator where it is installed
+#                      pool, malloc, and PHP's allocator where it is installed;
+#                      then import and export, against a plain parser and printer
 #   make run           replays examples/sample.log, the sample of RULES 12.3
 #   make map           replays examples/map.log and draws the pool after it
 #   make picture       the same as an SVG picture, build/pagemap.svg
+#   make import        imports examples/sample.txt, the text of RULES 12.7, and
+#                      replays it
 #   make first         builds and runs examples/first.c
 #   make editor        builds and runs examples/editor.c
 #   make clean         removes build/
@@ -50,7 +53,7 @@ HEADERS = $(wildcard include/*.h tests/*/*.h bench/*.h)
 # The library is proved again when any source or proof of it has changed.
 PROVED = crates.txt $(shell find crates -name '*.rt' -o -name '*.antt')
 
-all: $(LIB) $(PROGRAM) build/map build/paint
+all: $(LIB) $(PROGRAM) build/map build/paint build/import build/export
 
 # What the prover says goes to a file, and to the terminal where it fails.
 prove = @mkdir -p build; echo 'rt $(1): see build/$(notdir $@).log' >&2; \
@@ -74,6 +77,14 @@ build/paint: $(PROVED) | build/map
 	$(call prove,check painter)
 	cp target/bin/painter $@
 
+build/import: $(PROVED) | build/paint
+	$(call prove,check importer)
+	cp target/bin/importer $@
+
+build/export: $(PROVED) | build/import
+	$(call prove,check exporter)
+	cp target/bin/exporter $@
+
 build/%.o: %.c $(HEADERS) Makefile
 	@mkdir -p $(@D)
 	$(CC) $(CFLAGS) $(INCLUDES) -c $< -o $@
@@ -84,7 +95,7 @@ build/bench/or.o: bench/or.c $(HEADERS) Makefile
 	@mkdir -p $(@D)
 	$(CC) $(CFLAGS) -O3 -falign-functions=64 -falign-loops=64 $(INCLUDES) -c $< -o $@
 
-build/bench/plain.o: bench/plain.c $(HEADERS) Makefile
+build/bench/plain.o build/bench/scribe.o: build/%.o: %.c $(HEADERS) Makefile
 	@mkdir -p $(@D)
 	$(CC) $(CFLAGS) -O3 $(INCLUDES) -c $< -o $@
 
@@ -108,10 +119,10 @@ $(SHARED): $(SHARED_SOURCES:%.c=build/%.o)
 	$(AR) rcs $@ $^
 
 # Linked anew each time: LIB may have been another archive before.
-build/damage build/series build/replays: build/%: build/tests/%.o $(SHARED) $(LIB)
+build/damage build/series build/replays build/exchange: build/%: build/tests/%.o $(SHARED) $(LIB)
 	$(CC) $(CFLAGS) $^ -o $@
 
-build/program build/maps: build/%: build/tests/%.o $(SHARED)
+build/program build/maps build/texts: build/%: build/tests/%.o $(SHARED)
 	$(CC) $(CFLAGS) $^ -o $@
 
 build/seeds: build/fuzz/once.o build/fuzz/boundary.o $(SHARED) $(LIB)
@@ -128,11 +139,16 @@ build/php: build/tests/php.o $(SHARED) $(LIB)
 	./setup php
 	$(CC) $(CFLAGS) $^ -l:libphp8.2.so -o $@
 
-build/check build/calls: build/%: build/bench/%.o build/bench/timing.o build/bench/or.o $(SHARED) $(LIB)
+build/check build/calls: build/%: build/bench/%.o build/bench/timing.o build/bench/clock.o \
+		build/bench/or.o $(SHARED) $(LIB)
 	$(CC) $(CFLAGS) $^ -o $@
 
-build/replaying: build/bench/replay.o build/bench/plain.o build/bench/others.o $(LIB)
+build/replaying: build/bench/replay.o build/bench/clock.o build/bench/plain.o \
+		build/bench/others.o $(LIB)
 	$(CC) $(CFLAGS) $^ $(PHP_LIB) -o $@
+
+build/exchanging: build/bench/exchange.o build/bench/clock.o build/bench/scribe.o $(LIB)
+	$(CC) $(CFLAGS) $^ -o $@
 
 build/first build/editor: build/%: build/examples/%.o $(LIB)
 	$(CC) $(CFLAGS) $^ -o $@
@@ -148,7 +164,7 @@ host-test: all $(TESTS:%=%-test)
 list-tests:
 	@echo $(TESTS)
 
-damage-test series-test replays-test: %-test: build/%
+damage-test series-test replays-test exchange-test: %-test: build/%
 	build/$*
 
 seeds-test: build/seeds
@@ -160,6 +176,9 @@ program-test: build/program $(PROGRAM)
 maps-test: build/maps build/map build/paint
 	build/maps build/map build/paint
 	cmp docs/pagemap.svg crates/painter/stdout
+
+texts-test: build/texts build/import build/export
+	build/texts build/import build/export
 
 install-test: all
 	CC='$(CC)' LIB='$(LIB)' PROGRAM='$(PROGRAM)' tests/install.sh
@@ -183,10 +202,11 @@ fuzz: build/boundary
 	build/boundary -max_total_time=$(FUZZ_SECONDS) -max_len=4096 -dict=fuzz/words.dict \
 		-artifact_prefix=build/ build/corpus fuzz/seeds
 
-bench: build/check build/calls build/replaying
+bench: build/check build/calls build/replaying build/exchanging
 	build/check $(if $(GATE),--gate $(GATE))
 	build/calls
 	build/replaying
+	build/exchanging
 
 run: $(PROGRAM)
 	$(PROGRAM) <examples/sample.log
@@ -197,6 +217,9 @@ map: build/map
 picture: build/paint
 	build/paint <examples/map.log >build/pagemap.svg
 
+import: build/import $(PROGRAM)
+	build/import <examples/sample.txt | $(PROGRAM)
+
 first: build/first
 	build/first
 
@@ -206,8 +229,10 @@ editor: build/editor
 # What is installed, below PREFIX.
 INSTALLED = include/lensember.h lib/liblensember.a lib/pkgconfig/lensember.pc \
 	bin/lensember-replay bin/lensember-map bin/lensember-paint \
+	bin/lensember-import bin/lensember-export \
 	share/man/man1/lensember-replay.1 share/man/man1/lensember-map.1 \
-	share/man/man1/lensember-paint.1 share/man/man3/lensember.3
+	share/man/man1/lensember-paint.1 share/man/man1/lensember-import.1 \
+	share/man/man1/lensember-export.1 share/man/man3/lensember.3
 ROOT = $(DESTDIR)$(PREFIX)
 
 install: all
@@ -220,8 +245,12 @@ install: all
 	install -m 755 $(PROGRAM) '$(ROOT)'/bin/lensember-replay
 	install -m 755 build/map '$(ROOT)'/bin/lensember-map
 	install -m 755 build/paint '$(ROOT)'/bin/lensember-paint
-	install -m 644 man/lensember-replay.1 man/lensember-map.1 '$(ROOT)'/share/man/man1/
+	install -m 755 build/import '$(ROOT)'/bin/lensember-import
+	install -m 755 build/export '$(ROOT)'/bin/lensember-export
+	install -m 644 man/lensember-replay.1 man/lensember-map.1 man/lensember-import.1 \
+		'$(ROOT)'/share/man/man1/
 	install -m 644 man/lensember-map.1 '$(ROOT)'/share/man/man1/lensember-paint.1
+	install -m 644 man/lensember-import.1 '$(ROOT)'/share/man/man1/lensember-export.1
 	install -m 644 man/lensember.3 '$(ROOT)'/share/man/man3/
 
 uninstall:
@@ -230,7 +259,7 @@ uninstall:
 clean:
 	rm -rf build
 
-.PHONY: all test host-test list-tests long-test php-test fuzz bench run map picture first editor
-.PHONY: install uninstall clean
-.PHONY: build/damage build/series build/replays build/seeds build/boundary build/php
-.PHONY: build/check build/calls build/replaying build/first build/editor
+.PHONY: all test host-test list-tests long-test php-test fuzz bench run map picture import first
+.PHONY: editor install uninstall clean
+.PHONY: build/damage build/series build/replays build/exchange build/seeds build/boundary build/php
+.PHONY: build/check build/calls build/replaying build/exchanging build/first build/editor

@@ -6,8 +6,7 @@
  * turn in one run; of each the shortest time counts. Of some logs the pairs are
  * resizes, which no other allocator gets.
  */
-#define _POSIX_C_SOURCE 199309L /* clock_gettime */
-
+#include "clock.h"
 #include "lensember.h"
 #include "others.h"
 #include "plain.h"
@@ -16,7 +15,6 @@
 #include <stdio.h>
 #include <stdlib.h>
 #include <string.h>
-#include <time.h>
 
 enum { PAIRS = 100000, MOST_LIVE = MAX_CHUNKS * 4000, ROUNDS = 9 };
 
@@ -57,24 +55,6 @@ static size_t live;
 static struct pair pairs[PAIRS];
 static size_t live_before_pairs;
 static uint64_t sizes_before_pairs[MOST_LIVE];
-
-static double seconds_now(void)
-{
-    struct timespec now;
-
-    clock_gettime(CLOCK_MONOTONIC, &now);
-    return (double)now.tv_sec + (double)now.tv_nsec * 1e-9;
-}
-
-static uint64_t state;
-
-static uint64_t draw(uint64_t low, uint64_t high)
-{
-    state ^= state << 13;
-    state ^= state >> 7;
-    state ^= state << 17;
-    return low + (state >> 11) % (high - low + 1);
-}
 
 /* ---- The log ------------------------------------------------------------- */
 
@@ -153,7 +133,7 @@ static void write_log(const struct kind *kind, size_t c)
 {
     static const uint8_t start[4] = {1, 0, 1, 0};
 
-    state = UINT64_C(88172645463325252);
+    draw_begin();
     live = 0;
     plain_fresh((unsigned)c);
     memcpy(log_bytes, start, sizeof start);
@@ -212,14 +192,6 @@ static void compare(size_t c)
         fprintf(stderr, "replay: the two pools differ\n");
         exit(2);
     }
-}
-
-static void keep_shortest(double *best, double start)
-{
-    double took = seconds_now() - start;
-
-    if (took < *best)
-        *best = took;
 }
 
 struct times {

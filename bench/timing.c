@@ -1,10 +1,7 @@
-#define _POSIX_C_SOURCE 199309L /* clock_gettime */
-
 #include "timing.h"
 
+#include "clock.h"
 #include "or.h"
-
-#include <time.h>
 
 enum { BATCHES = 300, CALLS_A_BATCH = 192 /* for one chunk; fewer for more */ };
 
@@ -18,14 +15,6 @@ static volatile uint64_t sink;
 uint64_t call_or(size_t c)
 {
     return or_records(LENT(c));
-}
-
-static double seconds_now(void)
-{
-    struct timespec now;
-
-    clock_gettime(CLOCK_MONOTONIC, &now);
-    return (double)now.tv_sec + (double)now.tv_nsec * 1e-9;
 }
 
 /* Microseconds a chunk of one batch of calls. */

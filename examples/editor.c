@@ -2,11 +2,12 @@
  * A small table editor, to show how a C program keeps its data in Lensember's
  * pools. Each ear has a pool: records that are lent to every call, and an arena
  * whose bytes are the program's own. A band row is a block of 24 bytes; a table
- * is a block that holds the places of its rows.
+ * is a block that holds the places of its rows. What is done to a pool is written
+ * to a request log.
  *
  * The editor enters a table, copies it to the other ear, trims and extends it,
- * drops it, lists what is left, survives a damaged record, sweeps, and says what
- * it did.
+ * drops it, lists what is left, survives a damaged record, replays its logs,
+ * sweeps, takes the text of another vendor, and says what it did.
  */
 #include "lensember.h"
 
@@ -22,7 +23,8 @@ enum {
     NBITS = CHUNKS * LENSEMBER_CHUNK_BITS,
     NWORDS = CHUNKS * LENSEMBER_CHUNK_WORDS,
     NSLOTS = CHUNKS * LENSEMBER_CHUNK_SLOTS,
-    ARENA_BYTES = CHUNKS * LENSEMBER_CHUNK_BYTES
+    ARENA_BYTES = CHUNKS * LENSEMBER_CHUNK_BYTES,
+    LOG_BYTES = 32768
 };
 
 struct records {
@@ -36,6 +38,8 @@ struct ear {
     uint64_t number;        /* 0 left, 1 right */
     struct records records; /* lent to each call */
     uint8_t arena[ARENA_BYTES];
+    uint8_t log[LOG_BYTES]; /* what was done to the pool */
+    uint64_t logged;        /* how many bytes of it are written */
 };
 
 static struct ear left = {.name = "left", .number = 0};
@@ -54,9 +58,20 @@ static void must(uint64_t refusal, const char *call)
     exit(1);
 }
 
+/* Writes a field to the ear's log. */
+static void note(struct ear *ear, uint64_t tag, uint64_t first, uint64_t second)
+{
+    struct lensember_written log =
+        lensember_append(ear->log, sizeof ear->log, ear->logged, tag, first, second);
+
+    must(log.refusal, "append");
+    ear->logged = log.length;
+}
+
 static void open_ear(struct ear *ear)
 {
     must(lensember_fresh(CHUNKS, LENT(ear)), "fresh");
+    note(ear, LENSEMBER_START, CHUNKS, 0);
     printf("%s ear: a fresh pool of %d chunks\n", ear->name, CHUNKS);
 }
 
@@ -67,12 +82,14 @@ static uint64_t reserve(struct ear *ear, uint64_t size)
     struct lensember_reserved block = lensember_reserve(CHUNKS, LENT(ear), size);
 
     must(block.refusal, "reserve");
+    note(ear, LENSEMBER_RESERVE, size, 0);
     return block.place;
 }
 
 static void release(struct ear *ear, uint64_t place)
 {
     must(lensember_release(CHUNKS, LENT(ear), place), "release");
+    note(ear, LENSEMBER_RELEASE, place, 0);
 }
 
 static uint64_t size_of(const struct ear *ear, uint64_t place)
@@ -103,6 +120,7 @@ static uint64_t resize(struct ear *ear, uint64_t place, uint64_t size)
     struct lensember_resized block = lensember_resize(CHUNKS, LENT(ear), place, size);
 
     must(block.refusal, "resize");
+    note(ear, LENSEMBER_RESIZE, place, size);
     if (block.how == LENSEMBER_MOVED)
         memcpy(bytes_of(ear, block.place), old, block.copy);
     return block.place;
@@ -375,6 +393,52 @@ static void survive_damage(struct ear *ear, uint64_t live)
            lensember_check(CHUNKS, LENT(ear)));
 }
 
+/* ---- Logs, and another vendor's text ----------------------------------------- */
+
+/* Whoever replays the log has the same pool. */
+static void close_log(struct ear *ear)
+{
+    static struct records again;
+
+    note(ear, LENSEMBER_END, 0, 0);
+    must(lensember_replay(CHUNKS, again.bits, NBITS, again.words, NWORDS, again.slots, NSLOTS,
+                          ear->log, (size_t)ear->logged).refusal, "replay");
+    printf("%s ear: the log of %" PRIu64 " bytes replays to %s records\n", ear->name, ear->logged,
+           memcmp(&again, &ear->records, sizeof again) == 0 ? "the same" : "other");
+}
+
+/* A pool as the other vendor's editor left it: the ear's starts anew from its log. */
+static void take_text(struct ear *ear, const char *text)
+{
+    struct lensember_imported log = lensember_import((const uint8_t *)text, strlen(text), ear->log,
+                                                     sizeof ear->log);
+
+    if (log.refusal == LENSEMBER_BAD_LINE) {
+        printf("%s ear: the text is refused, line %" PRIu64 " is bad\n", ear->name, log.line);
+        return;
+    }
+    must(log.refusal, "import");
+    ear->logged = log.length;
+    must(lensember_replay(CHUNKS, LENT(ear), ear->log, (size_t)ear->logged).refusal, "replay");
+    printf("%s ear: a pool from a text, by a log of %" PRIu64 " bytes\n", ear->name, ear->logged);
+}
+
+/* For the other vendor. There is no line for a resize. */
+static void give_text(const struct ear *ear)
+{
+    static uint8_t text[LENSEMBER_EXPORT_ROOM(LOG_BYTES)];
+    struct lensember_exported lines = lensember_export(ear->log, (size_t)ear->logged, text,
+                                                       sizeof text);
+
+    if (lines.refusal == LENSEMBER_BAD_FIELD) {
+        printf("%s ear: the log has no text, for its field at %" PRIu64 "\n", ear->name,
+               lines.position);
+        return;
+    }
+    must(lines.refusal, "export");
+    printf("%s ear: the log as text\n%.*s", ear->name, (int)lines.length, (const char *)text);
+}
+
 /* ---- A morning ----------------------------------------------------------------- */
 
 int main(void)
@@ -405,7 +469,15 @@ int main(void)
     read_out(&other);
     print_totals(&left);
     print_totals(&right);
+    close_log(&left);
+    close_log(&right);
     sweep(&left);
     print_totals(&left);
+
+    give_text(&left);
+    take_text(&right, "pool 2\n+24\n+024\n");
+    take_text(&right, "pool 2\n+24\n+24\n+8192\n-4096\n");
+    print_totals(&right);
+    give_text(&right);
     return 0;
 }

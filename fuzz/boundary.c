@@ -2,7 +2,8 @@
  * A fuzzing target for the boundary to C. An input is a small program: each
  * letter is a call, the numbers behind it are what it is given. All calls are
  * made on a twin, so every answer and all three buffers are compared with the
- * model of pool.c and logs.c; buffers end right before memory that no one may
+ * model of pool.c and logs.c; those without a pool are made at a desk, beside
+ * the model of exchange.c. Buffers end right before memory that no one may
  * touch. A difference stops the program.
  *
  * The archive is not built for fuzzing, but the model is, and it goes through
@@ -23,6 +24,13 @@
  *   a E Q L M     bytes for ear E, arenas L and M bytes longer than they should be
  *   p N BYTES     replay of a log of the next N bytes of the input
  *   l W N BYTES   lines of it, in a buffer W bytes longer than they ask for
+ *   h W T F S N BYTES
+ *                 append of a field of tag T with the numbers F and S to a log so
+ *                 far of the next N bytes, in a buffer of W bytes more than any
+ *                 field needs; -W: fewer
+ *   i W N BYTES   import of a text of the next N bytes, in a buffer of W bytes
+ *                 more than the log takes; -W: fewer
+ *   o W N BYTES   export of a log, in the same way
  *   d B I J       turns over bit J of element I of buffer B: the records may be
  *                 damaged from here on, and every call has to say so
  *   u             takes back all damage
@@ -33,6 +41,7 @@
  * and other bytes are passed over.
  */
 #include "calls.h"
+#include "desk.h"
 #include "groups.h"
 #include "logs.h"
 #include "readers.h"
@@ -377,11 +386,9 @@ static void call_bytes(struct input *input, struct twin *twin)
     bytes(twin, ear, place, nleft, exact + (size_t)take_number(input));
 }
 
-/* A room that is longer than lines ask for, or shorter by a number below 0. */
-static size_t room_for(size_t nlog, uint64_t more)
+/* A room that is longer than what is asked for, or shorter by a number below 0. */
+static size_t longer(size_t room, uint64_t more)
 {
-    size_t room = LENSEMBER_LINES_ROOM(nlog);
-
     return more <= MOST_MORE || -more <= room ? room + (size_t)more : room;
 }
 
@@ -391,7 +398,47 @@ static bool call_log(struct input *input, struct twin *twin, bool lines)
     uint64_t more = lines ? take_number(input) : 0;
     size_t nlog = take_log(input, &log);
 
-    return lines ? print(twin, log, nlog, room_for(nlog, more)) : replay(twin, log, nlog);
+    return lines ? print(twin, log, nlog, longer(LENSEMBER_LINES_ROOM(nlog), more))
+                 : replay(twin, log, nlog);
+}
+
+/* What the log so far has behind it does not matter. */
+static void append(struct input *input, uint64_t more)
+{
+    static uint8_t buffer[MOST_LOG + LENSEMBER_FIELD_ROOM + MOST_MORE];
+    uint64_t tag = take_number(input), first = take_number(input), second = take_number(input);
+    const uint8_t *log;
+    size_t nlog = take_log(input, &log);
+
+    memcpy(buffer, log, nlog);
+    desk_append(buffer, longer(nlog + LENSEMBER_FIELD_ROOM, more), nlog, tag, first, second);
+}
+
+/* How much is taken is seen first, with room for anything. */
+static void exchange(struct input *input, uint64_t more, bool import)
+{
+    const uint8_t *bytes;
+    size_t count = take_log(input, &bytes), taken;
+
+    if (import) {
+        taken = (size_t)desk_import(bytes, count, LENSEMBER_IMPORT_ROOM(count)).length;
+        desk_import(bytes, count, longer(taken, more));
+    } else {
+        taken = (size_t)desk_export(bytes, count, LENSEMBER_EXPORT_ROOM(count)).length;
+        desk_export(bytes, count, longer(taken, more));
+    }
+}
+
+/* What needs no pool. */
+static bool call_without_pool(struct input *input, uint8_t letter)
+{
+    if (letter != 'h' && letter != 'i' && letter != 'o')
+        return false;
+    if (letter == 'h')
+        append(input, take_number(input));
+    else
+        exchange(input, take_number(input), letter == 'i');
+    return true;
 }
 
 /* What a replay, a fresh call and damage do, whether or not the records are sound. */
@@ -481,7 +528,7 @@ static void call(struct input *input, struct state *state)
     skip(input, 1);
     input->twin = state->twin;
     state->twin->calls = 1; /* the model is reviewed at the end, not in between */
-    if (call_anyhow(input, state, letter))
+    if (call_without_pool(input, letter) || call_anyhow(input, state, letter))
         return;
     if (letter == 'u' && state->damaged) {
         twin_settle(state->twin);
@@ -516,6 +563,7 @@ int LLVMFuzzerTestOneInput(const uint8_t *bytes, size_t size)
     struct state state = {fresh_twin(1), false};
     struct input input = {bytes, size, state.twin};
 
+    rng.state = 0; /* the same for the same input */
     group_begin("fuzz", "boundary");
     for (unsigned i = 0; i < MOST_CALLS && input.left > 0; i++) {
         call(&input, &state);

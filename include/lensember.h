@@ -6,10 +6,10 @@
  * are taken; it never reads or writes the bytes of a block.
  *
  * Who owns what. The caller owns all buffers, those of the records, the room
- * for a census, a request log and the room for its lines, and lends them for
- * the length of one call. The arenas, where the bytes of the blocks lie, are
- * the caller's alone: only their lengths are told. The library keeps nothing
- * between calls, allocates nothing and has no state of its own.
+ * for a census, a request log and the room for its lines, a vendor's text, and
+ * lends them for the length of one call. The arenas, where the bytes of the
+ * blocks lie, are the caller's alone: only their lengths are told. The library
+ * keeps nothing between calls, allocates nothing and has no state of its own.
  *
  * The three buffers of a pool, each with one part a chunk, lengths counted in
  * elements:
@@ -23,7 +23,8 @@
  *   - each pointer is aligned for its type and valid for its count of
  *     elements: for reading, and for writing too where it is not const;
  *   - the three buffers do not overlap, nor does the room lent to a census or
- *     to lines, or a log, overlap any of them or each other;
+ *     to lines, or a log, overlap any of them or each other; nor do the log and
+ *     the text of an import or export;
  *   - nobody else writes to them while the call runs;
  *   - an empty buffer's pointer need only be non-null and aligned.
  *
@@ -50,15 +51,16 @@
 
 /* Answers. */
 #define LENSEMBER_OK 0         /* served */
-#define LENSEMBER_SHAPE 1      /* c not 1 to 16, a length not the exact one, or no such ear */
+#define LENSEMBER_SHAPE 1      /* c not 1 to 16, a length that does not fit, or no such ear */
 #define LENSEMBER_DAMAGED 2    /* the records are not those of any pool */
 #define LENSEMBER_TOO_BIG 3    /* more than 2,093,056 bytes are asked for */
 #define LENSEMBER_NO_ROOM 4    /* no free slot of the class and no long enough gap, swept or not */
 #define LENSEMBER_NO_BLOCK 5   /* no block or slot starts at that place */
 #define LENSEMBER_FREE_SLOT 6  /* a slot starts there and is free */
-#define LENSEMBER_SHORT_ROOM 7 /* less room was lent than a census or lines needs */
+#define LENSEMBER_SHORT_ROOM 7 /* less room was lent than what is to be written needs */
 #define LENSEMBER_CUT_LOG 8    /* a log ends inside a field or before its end field */
-#define LENSEMBER_BAD_FIELD 9  /* a log field is unknown, of wrong length or out of its turn */
+#define LENSEMBER_BAD_FIELD 9  /* a log field is unknown, of wrong length, out of turn or unwritable */
+#define LENSEMBER_BAD_LINE 13  /* a line of a vendor's text is not one that is due */
 
 /* What a reserved block is. */
 #define LENSEMBER_NOTHING 0 /* refused: there is no block */
@@ -73,8 +75,24 @@
 #define LENSEMBER_LEFT 0
 #define LENSEMBER_RIGHT 1
 
+/* The fields of a request log, by their tags. */
+#define LENSEMBER_START 1   /* the count of chunks */
+#define LENSEMBER_RESERVE 2 /* the size */
+#define LENSEMBER_RELEASE 3 /* the place */
+#define LENSEMBER_END 4     /* no number */
+#define LENSEMBER_RESIZE 8  /* the place, then the size */
+
 /* Bytes of room that are enough for the lines of any log of n bytes. */
 #define LENSEMBER_LINES_ROOM(n) (12 * (size_t)(n) + 60)
+
+/* Bytes of room that are enough for any field behind a log so far. */
+#define LENSEMBER_FIELD_ROOM 11
+
+/* Bytes of room that are enough for the log of any vendor's text of n bytes. */
+#define LENSEMBER_IMPORT_ROOM(n) (7 * ((size_t)(n) / 3))
+
+/* Bytes of room that are enough for the vendor's text of any log of n bytes. */
+#define LENSEMBER_EXPORT_ROOM(n) (12 * ((size_t)(n) / 7))
 
 #ifdef __cplusplus
 extern "C" {
@@ -495,6 +513,116 @@ struct lensember_printed lensember_lines(uint64_t c,
                                          uint64_t *slots, size_t nslots,
                                          const uint8_t *log, size_t nlog,
                                          uint8_t *out, size_t nout);
+
+/* The answer to append. On a refusal the length is 0. */
+struct lensember_written {
+    uint64_t refusal; /* LENSEMBER_OK, or the number of the refusal */
+    uint64_t length;  /* bytes of the log with the new field, from log[0] on */
+};
+
+/*
+ * Writes one field behind a log so far, the first `length` bytes of log, which
+ * has nlog bytes. So a log is written field by field: from length 0 with a
+ * start, and then with each answered length, up to the end field. Any numbers
+ * may be given.
+ *
+ * The field is named by its tag, and has the numbers of its body, as for replay:
+ *
+ *   LENSEMBER_START    first is the count of chunks, 1 to 16
+ *   LENSEMBER_RESERVE  first is the size
+ *   LENSEMBER_RELEASE  first is the place
+ *   LENSEMBER_RESIZE   first is the place, second the size
+ *   LENSEMBER_END      no number
+ *
+ * Numbers that a field has not are not looked at. The field starts at
+ * log[length]; the bytes before it and behind it are unchanged. Each call reads
+ * the log so far from its first byte on, so that what is written is never part
+ * of a bad log.
+ *
+ *   LENSEMBER_OK          the field is written, and this is the new length
+ *   LENSEMBER_SHAPE       length is above nlog
+ *   LENSEMBER_BAD_FIELD   the log so far is not a row of good whole fields, each
+ *                         in its turn; no field has the tag; the field is not
+ *                         due behind them: not a start first, a start later, or
+ *                         anything behind the end; the count is not 1 to 16, or
+ *                         another number of the field is above 4,294,967,295
+ *   LENSEMBER_SHORT_ROOM  nlog is less than the log so far and the field take
+ *
+ * The refusals are checked in this order. A refused call changes nothing.
+ */
+struct lensember_written lensember_append(uint8_t *log, size_t nlog, uint64_t length,
+                                          uint64_t tag, uint64_t first, uint64_t second);
+
+/* The answer to import. On a refusal the length is 0. */
+struct lensember_imported {
+    uint64_t refusal; /* LENSEMBER_OK, or the number of the refusal */
+    uint64_t line;    /* of LENSEMBER_BAD_LINE: which, counted from 1; else 0 */
+    uint64_t length;  /* bytes of the log, from log[0] on */
+};
+
+/*
+ * Writes the request log of a vendor's text of ntext bytes: a line for each
+ * field, the start first, then reserves and releases, and none for the end.
+ *
+ *   pool 1
+ *   +24
+ *   -4096
+ *
+ * starts a pool of one chunk, reserves 24 bytes and releases the block at 4096.
+ * Numbers are decimal and without needless zeros, the count 1 to 16, the others
+ * at most 4,294,967,295. Each line ends in one newline, the last one too. There
+ * is nothing else in it, no blank or carriage return more, and no line for a
+ * resize.
+ *
+ * The log starts at log[0], and its last field is the end; the bytes behind it
+ * are unchanged. The room has nlog bytes: LENSEMBER_IMPORT_ROOM(ntext) of them
+ * are enough for any text of ntext bytes. The text is only read.
+ *
+ *   LENSEMBER_OK          the log is written
+ *   LENSEMBER_BAD_LINE    the text is not like that; the first line that is not
+ *                         is told. A last line without a newline is bad, and so
+ *                         is line 1 of an empty text
+ *   LENSEMBER_SHORT_ROOM  nlog is less than the log takes
+ *
+ * The refusals are checked in this order, a bad line anywhere before the room. A
+ * refused call changes nothing, not even a part of the log is written.
+ */
+struct lensember_imported lensember_import(const uint8_t *text, size_t ntext,
+                                           uint8_t *log, size_t nlog);
+
+/*
+ * The answer to export. On a refusal the length is 0. The position is that of a
+ * field's first byte, as for replay.
+ */
+struct lensember_exported {
+    uint64_t refusal;  /* LENSEMBER_OK, or the number of the refusal */
+    uint64_t position; /* where in the log it was refused; else 0 */
+    uint64_t length;   /* bytes of text, from text[0] on */
+};
+
+/*
+ * Writes the vendor's text of a request log of nlog bytes, which may start a
+ * pool of any count of chunks, 1 to 16. An import of the text is the log again,
+ * and an export of an imported text is that text.
+ *
+ * The text starts at text[0]; the bytes behind it are unchanged, and no zero
+ * byte is put there. The room has ntext bytes: LENSEMBER_EXPORT_ROOM(nlog) of
+ * them are enough for any log of nlog bytes. The log is only read.
+ *
+ *   LENSEMBER_OK          the text is written
+ *   LENSEMBER_CUT_LOG     the log ends inside a field, or without an end field
+ *   LENSEMBER_BAD_FIELD   a field with another tag or length, or out of its turn;
+ *                         a start with a count other than 1 to 16; a byte after
+ *                         the end. Or else, in a log without such a fault, there
+ *                         is a resize, which the text has no line for: the
+ *                         position is that of the first one
+ *   LENSEMBER_SHORT_ROOM  ntext is less than the text takes; the position is 0
+ *
+ * A fault anywhere in the log comes before a resize, a resize before the room.
+ * A refused call changes nothing, not even a part of the text is written.
+ */
+struct lensember_exported lensember_export(const uint8_t *log, size_t nlog,
+                                           uint8_t *text, size_t ntext);
 
 #ifdef __cplusplus
 }

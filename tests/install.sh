@@ -41,12 +41,16 @@ put() {
 # ---- Files ------------------------------------------------------------------
 
 cat >"$work/expected" <<'END'
+755 bin/lensember-export
+755 bin/lensember-import
 755 bin/lensember-map
 755 bin/lensember-paint
 755 bin/lensember-replay
 644 include/lensember.h
 644 lib/liblensember.a
 644 lib/pkgconfig/lensember.pc
+644 share/man/man1/lensember-export.1
+644 share/man/man1/lensember-import.1
 644 share/man/man1/lensember-map.1
 644 share/man/man1/lensember-paint.1
 644 share/man/man1/lensember-replay.1
@@ -143,6 +147,15 @@ paints_picture() {
     "$prefix/bin/lensember-paint" <examples/map.log | diff crates/painter/stdout -
 }
 
+# The same log as text (RULES 12.7).
+imports_sample() {
+    "$prefix/bin/lensember-import" <examples/sample.txt | cmp - examples/sample.log
+}
+
+exports_sample() {
+    "$prefix/bin/lensember-export" <examples/sample.log | cmp - examples/sample.txt
+}
+
 # ---- Man pages -------------------------------------------------------------------
 
 # Formatted without a word of warning.
@@ -169,10 +182,13 @@ check replay-sample replays_sample
 check replay-nothing replays_nothing
 check map-sample draws_map
 check picture-sample paints_picture
+check import-sample imports_sample
+check export-sample exports_sample
 check man-each-call names_each_call
 if command -v groff >/dev/null 2>&1; then
     check man-program reads_well man1/lensember-replay.1
     check man-map reads_well man1/lensember-map.1
+    check man-import reads_well man1/lensember-import.1
     check man-library reads_well man3/lensember.3
 else
     echo 'man pages not formatted: there is no groff'

@@ -31,13 +31,19 @@ void need_program(const char *path)
 
 struct feed file_of(const uint8_t *bytes, size_t length)
 {
-    struct feed feed = {bytes, length, 0, 0, false};
+    struct feed feed = {bytes, length, 0, 0, false, false};
+    return feed;
+}
+
+struct feed unreadable(void)
+{
+    struct feed feed = {(const uint8_t *)"", 0, 0, 0, false, true};
     return feed;
 }
 
 struct feed pieces_of(const uint8_t *bytes, size_t length, size_t piece, unsigned pause)
 {
-    struct feed feed = {bytes, length, piece, pause, false};
+    struct feed feed = {bytes, length, piece, pause, false, false};
     return feed;
 }
 
@@ -58,8 +64,11 @@ static int temporary(void)
 
 static int open_file(const struct feed *feed)
 {
-    int in = temporary();
+    int in = feed->unreadable ? open("/", O_RDONLY) : temporary();
 
+    need(in >= 0, "input for the tests");
+    if (feed->unreadable)
+        return in;
     need(write(in, feed->bytes, feed->length) == (ssize_t)feed->length
              && lseek(in, 0, SEEK_SET) == 0,
          "a log for the tests");
@@ -147,13 +156,13 @@ static void become_program(const char *path, int in, int out, int err, enum sink
 }
 
 /* In small pieces: where it is a pipe, the program has to wait for them. */
-static size_t drain(int from, char *bytes)
+static size_t drain(int from, char *bytes, size_t most)
 {
     size_t count = 0;
     ssize_t got;
 
     do {
-        size_t left = MOST_WRITTEN - count;
+        size_t left = most - count;
         got = read(from, bytes + count, left < 1000 ? left : 1000);
         count += got > 0 ? (size_t)got : 0;
     } while (got > 0);
@@ -161,14 +170,14 @@ static size_t drain(int from, char *bytes)
 }
 
 /* Of a file all of it, of a pipe what is still to come. */
-static size_t read_back(int from, char *bytes)
+static size_t read_back(int from, char *bytes, size_t most)
 {
     size_t count;
 
     if (from < 0)
         return 0;
     (void)lseek(from, 0, SEEK_SET);
-    count = drain(from, bytes);
+    count = drain(from, bytes, most);
     close(from);
     return count;
 }
@@ -194,22 +203,30 @@ static void wait_program(pid_t program)
     ran.status = ran.ended ? WEXITSTATUS(status) : WTERMSIG(status);
 }
 
+/* Only what the last run wrote has to be wiped. */
+static void forget_last(void)
+{
+    memset(ran.out, 0, ran.nout);
+    memset(ran.err, 0, ran.nerr);
+    ran.nout = ran.nerr = 0;
+}
+
 void run_program(const char *path, const struct feed *feed, enum sink sink)
 {
     pid_t writer = 0, program;
     int in = feed->piece > 0 ? open_pipe(feed, &writer) : open_file(feed);
     int back, out = open_sink(sink, &back), err = temporary();
 
-    memset(&ran, 0, sizeof ran);
+    forget_last();
     program = start_program(path, in, out, err, sink);
     close(in);
     close(out);
     if (sink == SINK_PIPE)
-        ran.nout = read_back(back, ran.out);
+        ran.nout = read_back(back, ran.out, MOST_WRITTEN);
     wait_program(program);
     if (sink == SINK_FILE)
-        ran.nout = read_back(back, ran.out);
-    ran.nerr = read_back(err, ran.err);
+        ran.nout = read_back(back, ran.out, MOST_WRITTEN);
+    ran.nerr = read_back(err, ran.err, MOST_TOLD);
     if (writer > 0)
         waitpid(writer, NULL, 0);
     group.trials++;

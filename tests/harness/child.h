@@ -7,7 +7,10 @@
 #include <stdint.h>
 
 /* "reads the first 16,384 bytes of standard input; the rest counts as missing" */
-enum { READ_AT_MOST = 16384, MOST_WRITTEN = 1 << 18 };
+enum { READ_AT_MOST = 16384 };
+
+/* More than any program writes, and tells on standard error. */
+enum { MOST_WRITTEN = 1 << 22, MOST_TOLD = 1 << 12 };
 
 /* Ends the tests where there is no such program to run. */
 void need_program(const char *path);
@@ -16,12 +19,14 @@ void need_program(const char *path);
 struct feed {
     const uint8_t *bytes;
     size_t length;
-    size_t piece;   /* bytes a piece; 0: a file */
-    unsigned pause; /* microseconds between two pieces */
-    bool endless;   /* over and over again */
+    size_t piece;    /* bytes a piece; 0: a file */
+    unsigned pause;  /* microseconds between two pieces */
+    bool endless;    /* over and over again */
+    bool unreadable; /* a folder, which opens but cannot be read */
 };
 
 struct feed file_of(const uint8_t *bytes, size_t length);
+struct feed unreadable(void);
 struct feed pieces_of(const uint8_t *bytes, size_t length, size_t piece, unsigned pause);
 size_t feed_read(const struct feed *feed); /* how many bytes of it the program reads */
 
@@ -32,7 +37,7 @@ struct ran {
     bool ended; /* by itself, not by a signal */
     int status; /* or the signal */
     size_t nout, nerr;
-    char out[MOST_WRITTEN], err[MOST_WRITTEN];
+    char out[MOST_WRITTEN], err[MOST_TOLD]; /* zero bytes behind what was written */
 };
 
 /* Of the last run. */

@@ -2,6 +2,8 @@
 
 #include "lent.h"
 
+#include "random.h"
+
 #include <stdio.h>
 #include <stdlib.h>
 #include <string.h>
@@ -96,6 +98,17 @@ uint8_t *lent_bytes_new(size_t bytes)
 void lent_bytes_free(uint8_t *buffer, size_t bytes)
 {
     guarded_free(buffer, bytes);
+}
+
+void lent_fill(uint8_t *buffer, size_t bytes)
+{
+    uint64_t word = rng_next(&rng);
+
+    for (size_t at = 0; at < bytes; at += sizeof word) {
+        size_t left = bytes - at;
+        word += UINT64_C(0x9E3779B97F4A7C15);
+        memcpy(buffer + at, &word, left < sizeof word ? left : sizeof word);
+    }
 }
 
 const uint8_t *lent_vast_new(size_t bytes, const uint8_t *front, size_t nfront)

@@ -19,6 +19,9 @@ void lent_room_free(uint64_t *room, size_t words);
 uint8_t *lent_bytes_new(size_t bytes);
 void lent_bytes_free(uint8_t *buffer, size_t bytes);
 
+/* Fills a buffer with bytes, drawn at random, of which no two words are alike. */
+void lent_fill(uint8_t *buffer, size_t bytes);
+
 /* Very many bytes for reading: these in front, all others 0. They take no memory. */
 const uint8_t *lent_vast_new(size_t bytes, const uint8_t *front, size_t nfront);
 void lent_vast_free(const uint8_t *buffer, size_t bytes);

@@ -141,17 +141,13 @@ static void try_replay(struct stage *stage, const uint8_t *log, size_t nlog,
     expect_left(stage, &stage->right, "replay", log, nlog);
 }
 
-/* The buffer and some bytes before it; no two words of them are alike. */
+/* The buffer and some bytes before it. */
 static void fill_outs(struct stage *stage, size_t nout)
 {
-    size_t count = nout + BYTES_AROUND;
-    uint64_t word = rng_next(&rng);
+    size_t count = nout + BYTES_AROUND, from = MOST_OUT - count;
 
-    for (size_t i = 0; i < count; i += sizeof word) {
-        word += UINT64_C(0x9E3779B97F4A7C15);
-        memcpy(stage->expected + MOST_OUT - i - sizeof word, &word, sizeof word);
-    }
-    memcpy(stage->out + MOST_OUT - count, stage->expected + MOST_OUT - count, count);
+    lent_fill(stage->expected + from, count);
+    memcpy(stage->out + from, stage->expected + from, count);
 }
 
 static void expect_outs(const struct stage *stage, size_t nlog, size_t nout)

@@ -1,5 +1,7 @@
 #include "book.h"
 
+#include "memory.h"
+
 #include <inttypes.h>
 #include <stdio.h>
 #include <stdlib.h>
@@ -39,11 +41,7 @@ static void make_space(struct book_sheet *sheet)
     if (sheet->count < sheet->space)
         return;
     sheet->space = sheet->space == 0 ? 16 : 2 * sheet->space;
-    sheet->blocks = realloc(sheet->blocks, sheet->space * sizeof *sheet->blocks);
-    if (sheet->blocks == NULL) {
-        perror("book");
-        exit(2);
-    }
+    sheet->blocks = grown(sheet->blocks, sheet->space * sizeof *sheet->blocks);
 }
 
 void book_put(struct book *book, uint64_t place, uint64_t size)

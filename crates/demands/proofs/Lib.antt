@@ -1,3 +1,4 @@
+pub mod ExchangeClaim
 pub mod RefusalClaim
 pub mod ReserveRules
 pub mod PlaceRules

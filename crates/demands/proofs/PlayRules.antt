@@ -24,6 +24,7 @@ use Rattle.requestlog.specs.declared.Read.{Read}
 use Rattle.requestlog.specs.declared.Read.the-variants.{Next, Done, Refused}
 use Rattle.requestlog.specs.Log.{due, written, cursor, outset, readAt}
 use Rattle.requestlog.proofs.LogLaws.{within-one, cond-cases, read-done, Fine, read-fine}
+use Rattle.requestlog.specs.Walk.{row}
 use Rattle.requestlog.proofs.WriteLaws.{read-written}
 use Rattle.replay.specs.declared.Event.the-variants.{Started, Ended}
 use Rattle.replay.specs.declared.Step.{Step}
@@ -151,7 +152,7 @@ module _ (c : ℕ) where
 
   calls-play : (a : List ℕ) (p : Pool) (calls : List Field) → ((f : Field) → List·Memᴰ f calls → Loggable f)
       → Plays c (a ++ logged calls) (cursor (length a) 1) p (inTurn c p calls)
-  unfolding due
+  unfolding due row
   calls-play a p [] w =
       let n = length-append a (written End) in
       end-field (read-written a [] End 1 tt refl)

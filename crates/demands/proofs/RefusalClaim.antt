@@ -47,7 +47,10 @@ use Rattle.replay.specs.Run.{Run, ended, runAll, runOf, replayed, replayOf}
 use Rattle.replay.proofs.MeanLaws.{numbers, unstarted, started, accepted, stopped}
 use Rattle.replay.proofs.PrefixLaws.{replay-prefix}
 use Rattle.lines.specs.Lines.{transcript, linesRoom, printed, telling, printedOf}
-use Rattle.demands.specs.Demand1.{Refuses, earOf, roomOf, Replays, Demand1}
+use Rattle.writer.specs.declared.Appended.{Appended}
+use Rattle.writer.specs.Append.{appended, appendAs}
+use Rattle.demands.specs.Demand1.{Refuses, earOf, roomOf, appendFirst, Replays, Demand1}
+use Rattle.demands.proofs.ExchangeClaim.{appendWork, append-joined, import-refuses, export-refuses, export-replay}
 
 -- ---- the check
 
@@ -152,6 +155,13 @@ module _ (ear c : ℕ) (p : Pool) (q : ℕ) (left right : List ℕ) where
       cut : Part → ℕ × List ℕ
       cut x = (x .refusal, take (x .size) (drop (x .start) (chosen ear left right)))
 
+module _ (log : List ℕ) (n tag x y : ℕ) where
+  append-refuses : Refuses (appendFirst log n tag x y) (λ z. z .answer .refusal) (λ r. leaves (appended r 0) log) (appendAs log n tag x y)
+  append-refuses =
+      rw (append-joined log n tag x y)
+      (refuses-by (appendFirst log n tag x y) (λ (z : Left Appended (List ℕ)). z .answer .refusal) (λ r. leaves (appended r 0) log)
+      (appendWork log n tag x y) (λ r. refl) (λ r e. absurd (omega arith)))
+
 -- ---- a replay
 
 module _ (c : ℕ) (p : Pool) (log : List ℕ) where
@@ -225,4 +235,8 @@ demand-1 =
       replay = replay-stands;
       lines-checked = lines-checked;
       lines-replay = lines-replay;
+      append = append-refuses;
+      import = import-refuses;
+      export = export-refuses;
+      export-replay = export-replay;
     }

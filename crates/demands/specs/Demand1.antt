@@ -4,17 +4,17 @@
 -- function by function, and the calls ask nothing of their arguments. The rest stands here, of what the calls answer and leave, whatever
 -- they are given. Assumes nothing.
 use mathlib.Core.Path.{_≡_}
-use mathlib.Core.Logic.{_⊎_, _↔_}
+use mathlib.Core.Logic.{_≢_, _⊎_, _↔_}
 use mathlib.Core.Bool.{true, false}
-use mathlib.Core.List.{List, [], _∷_}
-use Prim.Native.Nat.{ℕ, suc}
+use mathlib.Core.List.{List, [], _∷_, _++_}
+use Prim.Native.Nat.{ℕ, suc, _+_}
 use lib.Dec.{leb}
 use lib.ListN.{length, take}
 use lib.Seq.{sets}
-use Rattle.refusals.specs.Refusals.{shape, damaged, shortRoom, cutLog, badField, firstOf}
+use Rattle.refusals.specs.Refusals.{shape, damaged, shortRoom, cutLog, badField, badLine, Check, firstOf}
 use Rattle.records.specs.Pool.{Pool}
 use Rattle.records.specs.Sound.{sound}
-use Rattle.records.specs.Calls.{fit, shapeOf, checks, admitOf, leaves, freshOf}
+use Rattle.records.specs.Calls.{fit, shapeOf, checks, admitOf, Left, leaves, freshOf}
 use Rattle.blocks.specs.Stores.{Good}
 use Rattle.reserve.specs.Reserve.{refused, reserveOf}
 use Rattle.sweep.specs.Sweep.{gained, sweepOf}
@@ -25,9 +25,17 @@ use Rattle.next.specs.Next.{answered, nextOf}
 use Rattle.census.specs.Census.{counted, censusOf}
 use Rattle.totals.specs.Totals.{totalled, totalsOf}
 use Rattle.bytes.specs.Bytes.{chosen, earFits, bytesOf, bytesRefusalOf}
+use Rattle.requestlog.specs.declared.Field.the-variants.{Start}
+use Rattle.requestlog.specs.declared.Cursor.{Cursor}
+use Rattle.requestlog.specs.declared.Read.the-variants.{Next}
+use Rattle.requestlog.specs.Log.{member, written, outset, readAt}
 use Rattle.replay.specs.declared.Event.{Event}
 use Rattle.replay.specs.Run.{runOf, replayed, replayOf, bytesIn}
 use Rattle.lines.specs.Lines.{transcript, linesRoom, printed, printedOf}
+use Rattle.writer.specs.Append.{appended, appendChecks, tags, tagged, appendAs}
+use Rattle.exchange.specs.declared.Imported.{Imported}
+use Rattle.exchange.specs.declared.Exported.{Exported}
+use Rattle.exchange.specs.Exchange.{imported, importOf, exported, exportOf}
 
 -- ---- a call that refuses
 
@@ -46,6 +54,13 @@ earOf ear c p left right = firstOf ((earFits ear c (chosen ear (length left) (le
 -- the shape, then the room for the text
 abbrev pub roomOf : ℕ → Pool → List ℕ → List ℕ → ℕ
 roomOf c p log out = firstOf ((fit c p, shape) ∷ (leb (linesRoom (length log)) (length out), shortRoom) ∷ [])
+
+-- a length past the buffer and a tag that no field has, then the log so far and the field, then the room for both (RULES 7.4)
+abbrev pub appendFirst : List ℕ → ℕ → ℕ → ℕ → ℕ → ℕ
+appendFirst log n tag x y =
+    let f = tagged tag x y in
+    let room : Check = (leb (n + length (written f)) (length log), shortRoom) in
+    firstOf ((leb n (length log), shape) ∷ (member tag tags, badField) ∷ appendChecks log n f ++ (room ∷ []))
 
 -- ---- a replay (RULES 8)
 
@@ -66,6 +81,23 @@ pub record Replays (c : ℕ) (p : Pool) (log : List ℕ) : Type 0 where
   -- before an accepted start nothing changes; from it on the records are sound, whatever they were
   pub unstarted : runOf c p log .events ≡ [] → replayOf c p log .left ≡ p
   pub started : (e : Event) (l : List Event) → runOf c p log .events ≡ e ∷ l → Good c (replayOf c p log .left)
+
+-- ---- an import and an export (RULES 9.6, 9.7), which answer and leave x of the buffer out
+
+pub record ImportRefuses (out : List ℕ) (x : Left Imported (List ℕ)) : Type 0 where
+  -- 0, 13 or 7
+  pub number : (x .answer .refusal ≡ 0) ⊎ ((x .answer .refusal ≡ badLine) ⊎ (x .answer .refusal ≡ shortRoom))
+  -- whatever the number, the length is 0 and nothing is written; only 13 has a line
+  pub unchanged : (r : ℕ) → x .answer .refusal ≡ suc r → x ≡ leaves (imported (suc r) (x .answer .line) 0) out
+  pub line : x .answer .refusal ≢ badLine → x .answer .line ≡ 0
+
+pub record ExportRefuses (out : List ℕ) (x : Left Exported (List ℕ)) : Type 0 where
+  -- 0, 8, 9 or 7
+  pub number : (x .answer .refusal ≡ 0)
+      ⊎ ((x .answer .refusal ≡ cutLog) ⊎ ((x .answer .refusal ≡ badField) ⊎ (x .answer .refusal ≡ shortRoom)))
+  -- whatever the number, the length is 0 and nothing is written; only 8 and 9 have a position
+  pub unchanged : (r : ℕ) → x .answer .refusal ≡ suc r → x ≡ leaves (exported (suc r) (x .answer .position) 0) out
+  pub position : (x .answer .refusal ≡ 0) ⊎ (x .answer .refusal ≡ shortRoom) → x .answer .position ≡ 0
 
 -- ---- the claim
 
@@ -95,3 +127,13 @@ pub record Demand1 : Type 0 where
   pub lines-replay : (c : ℕ) (p : Pool) (log out : List ℕ) → roomOf c p log out ≡ 0 → (text : List ℕ) → text ≡ transcript c (runOf c p log)
       → printedOf c p log out
       ≡ leaves (printed (replayOf c p log .answer .refusal) (replayOf c p log .answer .position) (length text)) (replayOf c p log .left, sets out 0 text)
+  -- append, of a field by its tag and two numbers, as C has it
+  pub append : (log : List ℕ) (n tag x y : ℕ)
+      → Refuses (appendFirst log n tag x y) (λ z. z .answer .refusal) (λ r. leaves (appended r 0) log) (appendAs log n tag x y)
+  pub import : (text out : List ℕ) → ImportRefuses out (importOf text out)
+  pub export : (log out : List ℕ) → ExportRefuses out (exportOf log out)
+  -- a log that a replay refuses, in a pool of the log's own count, is refused by an export, with the same number and position
+  pub export-replay : (c : ℕ) (p : Pool) (log out : List ℕ) (r : ℕ) → fit c p ≡ true
+      → ((n : ℕ) (k : Cursor) → readAt log outset ≡ Next (Start n) k → n ≡ c)
+      → replayOf c p log .answer .refusal ≡ suc r
+      → exportOf log out ≡ leaves (exported (suc r) (replayOf c p log .answer .position) 0) out

@@ -40,6 +40,7 @@ use Rattle.requestlog.specs.declared.Field.the-variants.{Start, Reserve, Releas
 use Rattle.requestlog.specs.declared.Cursor.{Cursor}
 use Rattle.requestlog.specs.declared.Read.the-variants.{Next, Done, Refused}
 use Rattle.requestlog.specs.Log.{written, outset, readAt}
+use Rattle.requestlog.specs.Walk.{row}
 use Rattle.replay.specs.declared.Event.the-variants.{Started, Ended}
 use Rattle.replay.specs.Run.{reserveEvent, releaseEvent, resizeEvent, doField, Run, ended, withEvent, runOf}
 
@@ -216,8 +217,7 @@ Loggable End = ⊥
 
 -- such calls as fields, with the end behind them
 abbrev pub logged : List Field → List ℕ
-logged [] = written End
-logged (f ∷ l) = written f ++ logged l
+logged l = row written (l ++ (End ∷ []))
 
 -- what they do to a pool, one after another
 abbrev pub inTurn : ℕ → Pool → List Field → Run

@@ -13,6 +13,8 @@ ghost use Rattle.totals.specs.Totals.{totalsOf};
 ghost use Rattle.bytes.specs.Bytes.{partOf};
 ghost use Rattle.replay.specs.Run.{replayOf};
 ghost use Rattle.lines.specs.Lines.{printedOf};
+ghost use Rattle.writer.specs.Append.{appendAs};
+ghost use Rattle.exchange.specs.Exchange.{importOf, exportOf};
 ghost use Rattle.lensember.specs.Flat.{flatReserved, reservedOf};
 
 // struct lensember_reserved: kind is 0 for nothing, 1 for a slot, 2 for a page run; what does not apply is 0.
@@ -300,4 +302,34 @@ pub extern "C" fn lensember_lines(
         ≡ printedOf c (before bits words slots) (now (log .entry)) (now (out .entry)) ⌝ }
 {
     lines::lines(c, bits, words, slots, log, out)
+}
+
+// Append (RULES 7.4), the field by its tag and numbers: the new length, or refusal 1, 9 or 7 and nothing is written.
+#[no_mangle]
+pub extern "C" fn lensember_append(
+    log: &mut [u8],
+    length: u64,
+    tag: u64,
+    first: u64,
+    second: u64,
+) -> writer::Appended
+    ensures { λ r. ⌜ leaves r (now (log .exit)) ≡ appendAs (now (log .entry)) length tag first second ⌝ }
+{
+    writer::append_as(log, length, tag, first, second)
+}
+
+// Import (RULES 9.6): the length of the log, or refusal 13 or 7 and nothing is written.
+#[no_mangle]
+pub extern "C" fn lensember_import(text: &[u8], log: &mut [u8]) -> exchange::Imported
+    ensures { λ r. ⌜ leaves r (now (log .exit)) ≡ importOf (now (text .entry)) (now (log .entry)) ⌝ }
+{
+    exchange::import(text, log)
+}
+
+// Export (RULES 9.7): the length of the text, or refusal 8, 9 or 7 and nothing is written.
+#[no_mangle]
+pub extern "C" fn lensember_export(log: &[u8], text: &mut [u8]) -> exchange::Exported
+    ensures { λ r. ⌜ leaves r (now (text .exit)) ≡ exportOf (now (log .entry)) (now (text .entry)) ⌝ }
+{
+    exchange::export(log, text)
 }

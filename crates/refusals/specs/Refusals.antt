@@ -32,6 +32,9 @@ cutLog = 8
 abbrev pub badField : ℕ
 badField = 9
 
+abbrev pub badLine : ℕ
+badLine = 13
+
 -- ---- their order
 
 -- what has to hold, and the number where it does not

@@ -28,6 +28,9 @@ pub const CUT_LOG: u64 = 8;
 // A field of a log is unknown, of a wrong length, or out of its turn.
 pub const BAD_FIELD: u64 = 9;
 
+// A line of the vendor's text is none of a field that is due.
+pub const BAD_LINE: u64 = 13;
+
 // The first check that does not hold decides.
 pub fn first_decides() -> bool
     ensures { λ r. ⌜ FirstDecides ⌝ }

@@ -1,5 +1,5 @@
 -- Laws of decimal text, and of texts written one after another.
-use Prim.Native.Nat.{ℕ, zero, suc, _+_, _-_, _/_, _%_, _^_, _≤_, _<_}
+use Prim.Native.Nat.{ℕ, zero, suc, _+_, _-_, _*_, _/_, _%_, _^_, _≤_, _<_}
 use mathlib.Core.Path.{_≡_, refl, sym, ap, _∙_}
 use mathlib.Core.List.{List, [], _∷_, _++_}
 use mathlib.Core.Bool.{Bool, true, false, cond}
@@ -10,6 +10,8 @@ use native.Mathlib.Omega.{arith}
 use mathlib.Core.Logic.{by-cases, _≢_}
 use borrow.Author.Tests.{lt-ltb, le-ltb, ne-eqb}
 use lib.Dec.{ltb}
+use mir.Val.{Fits}
+use mir.Syntax.{w64}
 use lib.ListN.{length, drop, set, length-append, getD, drop-of-length-le, take}
 use lib.Seq.{sets, set-comm, drop-cons, length-sets, getD-drop, drop-drop, length-take-le}
 use Rattle.text.specs.Text.{digits, decimal, Appends, piece, takes, shows, only, filledFrom, filled, pieceRoom, room}
@@ -95,7 +97,59 @@ decimal-short (suc k) n h =
     by-cases (decLt n 10) (λ s. omega (arith, decimal-length-small n s))
     (λ s. omega (arith, decimal-length-large n (omega arith), decimal-short k (n / 10) (omega (arith, pow-suc 10 (suc k)))))
 
+-- a number from ten to the power k on has more than k digits
+power-less : (j d : ℕ) → 10 ^ j ≤ 10 ^ (j + d)
+power-less j zero = rw (add-zero j) (omega arith)
+power-less j (suc d) = rw (add-suc j d) (omega (arith, pow-suc 10 (j + d), power-less j d))
+
+pub power-most : (j k : ℕ) → j ≤ k → 10 ^ j ≤ 10 ^ k
+power-most j k l = let e : j + (k - j) ≡ k = omega arith in rw e at (power-less j (k - j))
+
+pub decimal-long : (k n : ℕ) → 10 ^ k ≤ n → suc k ≤ length (decimal n)
+decimal-long zero n h = decimal-some n
+decimal-long (suc k) n h =
+    let one : 1 ≤ 10 ^ k = power-most 0 k (omega arith) in
+    let large : 10 ^ k * 10 ≤ n = rw (pow-suc 10 k) at h in
+    omega (arith, decimal-length-large n (omega arith), decimal-long k (n / 10) (omega arith))
+
 -- ---- the loops
+
+-- p is the least number with more than k digits, and n has k or more
+pub record Digits (n p k : ℕ) : Type 0 where
+  pub power : p ≡ 10 ^ k
+  pub some : 1 ≤ k
+  pub few : k ≤ 19
+  pub least : k ≤ length (decimal n)
+
+abbrev pub Long : ℕ → ℕ → Type 0
+Long n k = (k ≡ length (decimal n)) × (1 ≤ k) × (k ≤ 20)
+
+pub digits-first : (n : ℕ) → Digits n 10 1
+digits-first n = record { power = refl; some = omega arith; few = omega arith; least = decimal-some n }
+
+module _ {n p k : ℕ} (d : Digits n p k) where
+  module _ (h : k ≢ 19) where
+    pub digits-room : Fits w64 (10 * p)
+    digits-room =
+        let most : 10 ^ k ≤ 10 ^ 18 = power-most k 18 (omega (arith, d .few)) in
+        omega (arith, d .power, most)
+
+    pub digits-next : p ≤ n → Digits n (10 * p) (k + 1)
+    digits-next l =
+        let longer = decimal-long k n (omega (arith, d .power)) in
+        let next : 10 * p ≡ 10 ^ (k + 1) = rw (add-one k, pow-suc 10 k) (omega (arith, d .power)) in
+        record { power = next; some = omega arith; few = omega (arith, d .few); least = omega arith }
+
+  pub digits-full : k ≡ 19 → p ≤ n → Fits w64 n → Long n 20
+  digits-full e l h =
+      let longer : suc k ≤ length (decimal n) = decimal-long k n (omega (arith, d .power)) in
+      (omega (arith, longer, decimal-short 19 n (omega arith)), omega arith, omega arith)
+
+  pub digits-done : n < p → Long n k
+  digits-done l =
+      let e : suc (k - 1) ≡ k = omega (arith, d .some) in
+      let below : n < 10 ^ suc (k - 1) = rw e (omega (arith, d .power)) in
+      (omega (arith, d .least, d .some, decimal-short (k - 1) n below), d .some, omega (arith, d .few))
 
 -- the last digit of m is stored; those in front are left
 pub digit-turn : (o : List ℕ) (at i m : ℕ) → 10 ≤ m → i + 1 ≡ at + length (decimal m) → sets (set o i (48 + m % 10)) at (decimal (m / 10)) ≡ sets o at (decimal m)
@@ -142,9 +196,9 @@ module _ (b n : ℕ) {o : List ℕ} {i : ℕ} where
   pub piece-none : (m : ℕ) → piece m n ≡ [] → b ≡ m → Pieced b n o o i i
   piece-none m h e = (rw (e, h) appends-none, omega arith)
 
-  pub piece-number : b ≡ 36 → {o′ : List ℕ} {j : ℕ} → Appends o o′ i j (decimal n) → j ≤ i + 20 → Pieced b n o o′ i j
+  pub piece-number : b ≡ 36 → {o′ : List ℕ} {j : ℕ} → Appends o o′ i j (decimal n) → length (decimal n) ≤ 20 → Pieced b n o o′ i j
   unfolding piece
-  piece-number e w l = rw e (w, l)
+  piece-number e w l = rw e (w, omega (arith, w .next))
 
   pub piece-byte : b ≡ 126 → Pieced b n o (set o i (n % 256)) i (i + 1)
   unfolding piece

@@ -10,10 +10,13 @@ ghost use Rattle.text.specs.Text.{decimal, Appends, piece, takes, shows,
 pub fn decimal_length(n: u64) -> usize
     ensures { λ r. ⌜ (r ≡ length (decimal n)) × (1 ≤ r) × (r ≤ 20) ⌝ }
 {
-    let mut m = n;
+    let mut p = 10;
     let mut k = 1;
-    while 10 <= m {
-        m = m / 10;
+    while p <= n {
+        if k == 19 {
+            return 20;
+        }
+        p = 10 * p;
         k += 1;
     }
     k
@@ -21,9 +24,8 @@ pub fn decimal_length(n: u64) -> usize
 
 // A number in decimal, from its last digit to its first.
 pub fn put_decimal(out: &mut [u8], at: usize, n: u64) -> usize
-    requires { ⌜ at + 20 ≤ length (now out) ⌝ }
+    requires { ⌜ at + length (decimal n) ≤ length (now out) ⌝ }
     ensures { λ r. ⌜ Appends (now (out .entry)) (now (out .exit)) at r (decimal n) ⌝ }
-    ensures { λ r. ⌜ r ≤ at + 20 ⌝ }
 {
     let k = decimal_length(n);
     let mut m = n;

@@ -2,7 +2,7 @@
 use lib.Seq.{sets}
 use lib.ListN.{length-set}
 use Rattle.text.specs.Text.{decimal}
-use Rattle.text.proofs.TextLaws.{digit-turn, digit-done, decimal-length-large, decimal-some, decimal-short}
+use Rattle.text.proofs.TextLaws.{digit-turn, digit-done, decimal-length-large, decimal-some}
 use Prim.Native.Nat.{_+_, _-_, _/_, _≤_}
 use mathlib.Core.Path.{_≡_, refl, _∙_}
 use native.Mathlib.Omega.{arith}
@@ -18,7 +18,7 @@ abbrev μ-loop : tie.MeasureT-loop
 μ-loop out₀ at n k m₀ i₀ out m i = m
 
 add-i : tie.Need-add-i Inv-loop μ-loop
-add-i c = omega (arith, decimal-short 19 (c .before .before .args .n) (omega arith))
+add-i c = omega arith
 
 loop-holds : tie.Need-loop-holds Inv-loop μ-loop
 loop-holds c = (omega arith, refl, omega arith, refl)
@@ -42,7 +42,7 @@ same-length c = simp length-set (c .before .loop .inv .1)
 returns : tie.Need-returns Inv-loop μ-loop
 returns c =
     let v = c .before .loop .inv in
-    (record { next = omega arith; text = digit-done _ _ _ _ (c .loop-test .left) (v .0) ∙ v .3 }, omega arith)
+    record { next = omega arith; text = digit-done _ _ _ _ (c .loop-test .left) (v .0) ∙ v .3 }
 
 pub put-decimal-spec : {M : Type 1} → statement M
 put-decimal-spec =

@@ -2,7 +2,7 @@
 use mathlib.Core.Path.{refl, ap}
 use native.Mathlib.Omega.{arith}
 use Rattle.text.specs.Text.{piece, pieceRoom}
-use Rattle.text.proofs.TextLaws.{piece-none, piece-number, piece-byte, piece-itself, room-one}
+use Rattle.text.proofs.TextLaws.{piece-none, piece-number, piece-byte, piece-itself, room-one, decimal-short}
 use borrow.Author.Needs.{needs}
 use Rattle.text.proofs.put_piece.Statement.{statement}
 use Rattle.text.proofs.put_piece.Tie as tie
@@ -16,11 +16,15 @@ unfolding piece
 returns-2 c = piece-none _ _ 93 refl (c .if2 .taken)
 
 put-decimal-requires : tie.Need-put-decimal-requires
-put-decimal-requires c κs = omega (arith, ap pieceRoom (c .before .if3 .taken))
+put-decimal-requires c κs =
+    let if3 = c .before in
+    omega (arith, ap pieceRoom (if3 .if3 .taken), decimal-short 19 (if3 .before .before .before .before .args .n) (omega arith))
 
 returns-3 : tie.Need-returns-3
 returns-3 c =
-    let p = c .before .before in piece-number _ _ (p .before .before .if3 .taken) (p .put-decimal .ensures .0) (p .put-decimal .ensures .1)
+    let p = c .before .before in
+    let if3 = p .before .before in
+    piece-number _ _ (if3 .if3 .taken) (p .put-decimal .ensures) (decimal-short 19 (if3 .before .before .before .before .args .n) (omega arith))
 
 slice-write-out : tie.Need-slice-write-out
 slice-write-out c = omega (arith, ap pieceRoom (c .if4 .taken))

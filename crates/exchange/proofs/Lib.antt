@@ -1,0 +1,12 @@
+pub mod CountLaws
+pub mod GoodLaws
+pub mod ImportLaws
+pub mod CallLaws
+pub mod SkimLaws
+pub mod FaultLaws
+pub mod ExportLaws
+pub mod ReadLaws
+pub mod WrittenLaws
+pub mod TripLaws
+pub mod FrontLaws
+pub mod ExportRules
