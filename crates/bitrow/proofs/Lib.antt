@@ -3,4 +3,5 @@ pub mod Rows
 pub mod Masks
 pub mod Marks
 pub mod Ext
+pub mod Lows
 pub mod Counts

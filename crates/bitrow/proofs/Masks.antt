@@ -67,7 +67,7 @@ bit-ones : (n j : ℕ) → j < n → bit (2 ^ n - 1) j ≡ 1
 bit-ones n j l =
     ap (λ (x : ℕ). bit x j) (sym (sub-zero (2 ^ n - 1))) ∙ bit-not n 0 j (pow-pos n) l ∙ ap (λ (x : ℕ). 1 - x) (bit-of-zero j)
 
-bit-high : (x j : ℕ) → x < 2 ^ j → bit x j ≡ 0
+pub bit-high : (x j : ℕ) → x < 2 ^ j → bit x j ≡ 0
 unfolding bit
 bit-high x j h = ap (λ (y : ℕ). y % 2) (div-eq-of-lt h)
 

@@ -1,9 +1,10 @@
 // Rows of bits in 64-bit words. Page bits and slot bits are such rows, so each search, change and count is here once, with the bit's
 // value as an argument where it has one.
 ghost use mathlib.Core.Path.{_≡_};
-ghost use Prim.Native.Nat.{_+_, _-_, _*_, _%_, _^_, _≤_, _<_, min};
+ghost use mathlib.Core.Bool.{not};
+ghost use Prim.Native.Nat.{ℕ, _+_, _-_, _*_, _%_, _^_, _≤_, _<_, min};
 ghost use lib.ListN.{length};
-ghost use Rattle.bitrow.specs.Row.{digit, isSet, Lowest, nextBit, putBit, putBits, countBits};
+ghost use Rattle.bitrow.specs.Row.{digit, isSet, Lowest, nextBit, wordPut, putBit, putBits, countBits};
 ghost use Rattle.bitrow.specs.Mask.{maskOf, withMask};
 
 // Whether bit i of the row is 1.
@@ -34,6 +35,21 @@ pub fn first_bit(w: u64, v: bool) -> u32
     ensures { λ r. ⌜ Lowest 64 w (digit v) r ⌝ }
 {
     if v { first_one(w) } else { first_zero(w) }
+}
+
+// 1 where so, else 0.
+fn one_if(so: bool) -> u64
+    ensures { λ r. ⌜ r ≡ digit so ⌝ }
+{
+    if so { 1 } else { 0 }
+}
+
+// The word without its lowest 1 bit, if so; it has one. One less than the word has a 0 there and 1 bits below.
+pub fn without_lowest(w: u64, so: bool) -> u64
+    requires { ⌜ 1 ≤ w ⌝ }
+    ensures { λ r. ⌜ ((t : ℕ) → Lowest 64 w 1 t → r ≡ wordPut (digit (not so)) w t) ⌝ }
+{
+    w & (w - one_if(so))
 }
 
 // The lesser of two numbers.

@@ -38,7 +38,7 @@ pub good-admit : (c : ℕ) (p : Pool) → Good c p → admitOf c p ≡ 0
 good-admit c p h = sym (admit-fit c p (h .shape) true (sym (h .whole)))
 
 -- no bit is set that names no slot
-bare : (p : Pool) (g : ℕ) → clean p g ≡ true → (s : ℕ) → slotsOf (kindAt p g) ≤ s → s < 512 → slotAt p g s ≡ false
+pub bare : (p : Pool) (g : ℕ) → clean p g ≡ true → (s : ℕ) → slotsOf (kindAt p g) ≤ s → s < 512 → slotAt p g s ≡ false
 unfolding clean named
 bare p g e s z l = go (slotAt p g s) (all-at 512 (named p g) e s l)
   where

@@ -1,11 +1,13 @@
 -- The stores as the code makes them: words and bits one after the other. Assumes nothing.
 use mathlib.Core.Path.{_≡_, refl, sym, ap, ap₂, _∙_}
 use mathlib.Core.List.{List, _∷_}
-use Prim.Native.Nat.{ℕ, suc, _+_, _-_, _*_, _≤_, _<_}
+use Prim.Native.Nat.{ℕ, suc, _+_, _-_, _*_, _/_, _%_, _^_, _≤_, _<_}
 use native.Mathlib.Omega.{arith}
+use lib.Bits.{bitOr}
 use lib.ListN.{length, getD, set, length-set}
 use lib.Seq.{sets}
-use Rattle.bitrow.specs.Row.{putBit, putBits}
+use Rattle.bitrow.specs.Row.{bit, bitAt, Lowest, wordPut, putBit, putBits}
+use Rattle.bitrow.proofs.Lows.{lowest-filled, one-off}
 use Rattle.classes.specs.Classes.{pages}
 use Rattle.classes.proofs.ClassLaws.{row-facts}
 use Rattle.records.specs.declared.Kind.the-variants.{Class}
@@ -58,6 +60,36 @@ pub slot-stored : (v : ℕ) (p : Pool) (g s : ℕ) (ss : List ℕ) → ss ≡ pu
     → pool (p .bits) (p .words) ss ≡ putSlot v p g s
 unfolding putSlot
 slot-stored v p g s ss e = cc
+
+-- one word of slot bits is written
+word-stored : (v : ℕ) (p : Pool) (g s i x : ℕ) → i ≡ 8 * g + s / 64 → x ≡ wordPut v (getD (p .slots) i 0) (s % 64)
+    → pool (p .bits) (p .words) (set (p .slots) i x) ≡ putSlot v p g s
+unfolding putBit
+word-stored v p g s i x e f =
+    let q : i ≡ (512 * g + s) / 64 = omega arith in
+    let r : s % 64 ≡ (512 * g + s) % 64 = omega arith in
+    slot-stored v p g s (set (p .slots) i x)
+    (ap (set (p .slots) i) f ∙ ap₂ (λ (j o : ℕ). set (p .slots) j (wordPut v (getD (p .slots) j 0) o)) q r)
+
+module _ (p : Pool) (i : ℕ) (fits : getD (p .slots) i 0 < 2 ^ 64) where
+  abbrev word : ℕ
+  word = getD (p .slots) i 0
+
+  pub word-filled : (n g k t : ℕ) → n ≡ (word + 1) % 2 ^ 64 → i ≡ 8 * g + k → t < 64 → Lowest 64 word 0 t
+      → (bitOr word n ≡ wordPut 1 word t) × (pool (p .bits) (p .words) (set (p .slots) i (bitOr word n)) ≡ putSlot 1 p g (64 * k + t))
+  word-filled n g k t d e l f =
+      let h = ap (bitOr word) d ∙ lowest-filled word t fits l f in
+      let r : t ≡ (64 * k + t) % 64 = omega arith in
+      (h, word-stored 1 p g (64 * k + t) i (bitOr word n) (omega arith) (h ∙ ap (wordPut 1 word) r))
+
+  pub bit-freed : (n g s : ℕ) → i ≡ 8 * g + s / 64 → n ≡ 2 ^ (s % 64) → bitAt (p .slots) (512 * g + s) ≡ 1
+      → pool (p .bits) (p .words) (set (p .slots) i (word - n)) ≡ putSlot 0 p g s
+  unfolding bitAt
+  bit-freed n g s e f b =
+      let q : (512 * g + s) / 64 ≡ i = omega arith in
+      let r : (512 * g + s) % 64 ≡ s % 64 = omega arith in
+      let one : bit word (s % 64) ≡ 1 = sym (ap₂ (λ (j o : ℕ). bit (getD (p .slots) j 0) o) q r) ∙ b in
+      word-stored 0 p g s i (word - n) e (ap (λ (x : ℕ). word - x) f ∙ one-off word (s % 64) fits (omega arith) one)
 
 -- a class run has as many words as pages
 pub class-long : (b : ℕ) → b < 30 → length (wordsOf (Class b)) ≡ pages b

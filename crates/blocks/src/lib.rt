@@ -1,10 +1,10 @@
 // The live blocks of a pool, and how each store changes them. Nobody else writes a slot bit or the words and bits of a run. Definitions in
 // specs/, laws in proofs/.
 ghost use mathlib.Core.Path.{_≡_};
-ghost use Prim.Native.Nat.{suc, _+_, _*_, _<_, _≤_};
-ghost use lib.ListN.{length};
+ghost use Prim.Native.Nat.{ℕ, suc, _+_, _*_, _/_, _%_, _^_, _<_, _≤_};
+ghost use lib.ListN.{length, getD};
 ghost use lib.Seq.{sets};
-ghost use Rattle.bitrow.specs.Row.{digit};
+ghost use Rattle.bitrow.specs.Row.{digit, bitAt, Lowest, wordPut};
 ghost use Rattle.classes.specs.Classes.{pages};
 ghost use Rattle.records.specs.declared.Kind.the-variants.{Large, Class};
 ghost use Rattle.records.specs.Kinds.{zeros, wordsOf};
@@ -21,6 +21,28 @@ pub fn put_slot(bits: &[u64], words: &mut [u32], slots: &mut [u64], g: usize, s:
     ensures { λ _. ⌜ after bits words slots ≡ putSlot (digit v) (before bits words slots) g s ⌝ }
 {
     bitrow::put_bit(slots, 512 * g + s, v);
+}
+
+// Takes the slot at the lowest 0 bit of slot word i, which has one; answers the word as it is then. One more than the word has its lowest 0
+// bit as the lowest 1.
+pub fn fill_word(bits: &[u64], words: &mut [u32], slots: &mut [u64], i: usize) -> u64
+    requires { ⌜ i < length (now slots) ⌝ }
+    ensures { λ r. ⌜ ((g k t : ℕ) → i ≡ 8 * g + k → t < 64 → Lowest 64 (getD (now (slots .entry)) i 0) 0 t
+        → (r ≡ wordPut 1 (getD (now (slots .entry)) i 0) t) × (after bits words slots ≡ putSlot 1 (before bits words slots) g (64 * k + t))) ⌝ }
+{
+    let w = slots[i];
+    let v = w | std::num::wrapping_add_u64(w, 1);
+    slots[i] = v;
+    v
+}
+
+// Gives back the slot at a bit of slot word i, which is 1: `bit` is the word that has this bit alone.
+pub fn free_bit(bits: &[u64], words: &mut [u32], slots: &mut [u64], i: usize, bit: u64)
+    requires { ⌜ (i < length (now slots)) × (bit ≤ getD (now slots) i 0) ⌝ }
+    ensures { λ _. ⌜ ((g s : ℕ) → i ≡ 8 * g + s / 64 → bit ≡ 2 ^ (s % 64) → bitAt (now (slots .entry)) (512 * g + s) ≡ 1
+        → after bits words slots ≡ putSlot 0 (before bits words slots) g s) ⌝ }
+{
+    slots[i] = slots[i] - bit;
 }
 
 // The words of a run of class b, of n pages, from page g on.

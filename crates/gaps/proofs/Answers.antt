@@ -2,19 +2,17 @@
 -- Assumes nothing.
 use mathlib.Core.Path.{_≡_, refl, sym, ap, ap₂, _∙_, subst}
 use mathlib.Core.Logic.{⊎-elim}
-use mathlib.Core.Bool.{Bool, cond}
 use mathlib.Core.List.{List}
 use Prim.Native.Nat.{ℕ, zero, suc, _+_, _-_, _*_, _/_, _%_, _≤_, _<_}
 use native.Mathlib.Nat.{zero-add}
 use native.Mathlib.Omega.{arith}
-use lib.Dec.{eqb}
 use Rattle.bitrow.specs.Row.{bitAt}
 use Rattle.bitrow.proofs.Rows.{lt-or-ge}
 use Rattle.gaps.specs.declared.Gap.{Gap}
 use Rattle.gaps.specs.declared.Found.{Found}
 use Rattle.gaps.specs.declared.Found.the-variants.{At, Nothing}
-use Rattle.gaps.specs.Gaps.{isFree, gap, withGap, gapsFrom, gapsOf, noGap, shortest, foundAt, findInChunk, orElse, findFrom, findPages, IsGap, IsBest, HoldsNone, IsPlace, GapsMean}
-use Rattle.gaps.proofs.Scan.{free-or-taken}
+use Rattle.gaps.specs.Gaps.{gap, gapsOf, noGap, shortest, foundAt, findInChunk, orElse, findFrom, findPages, IsGap, IsBest, HoldsNone, IsPlace, GapsMean}
+use Rattle.gaps.proofs.Scan.{free-or-taken, gaps-same}
 use Rattle.gaps.proofs.Listed.{in-mem, mem-in, listed-gap, gap-listed}
 use Rattle.gaps.proofs.Choice.{InChunk, chunk-means}
 
@@ -185,22 +183,11 @@ found-free c bits n g e =
 -- ---- rows with the same bits
 
 module _ (bits bits′ : List ℕ) where
-  gaps-same : (m g l : ℕ) → ((i : ℕ) → g ≤ i → i < g + m → bitAt bits i ≡ bitAt bits′ i) → gapsFrom bits g m l ≡ gapsFrom bits′ g m l
-  unfolding gapsFrom
-  gaps-same zero g l h = refl
-  gaps-same (suc m) g l h =
-      let e : isFree bits g ≡ isFree bits′ g = ap (λ (x : ℕ). eqb x 0) (h g (omega arith) (omega arith)) in
-      ap (λ (v : Bool). gapped v bits) e ∙ ap (λ (x : List Gap). cond (isFree bits′ g) x (withGap (g - l) l x))
-      (gaps-same m (g + 1) (cond (isFree bits′ g) (l + 1) 0) (λ i a b. h i (omega arith) (omega arith)))
-    where
-      gapped : Bool → List ℕ → List Gap
-      gapped v x = cond v (gapsFrom x (g + 1) m (cond v (l + 1) 0)) (withGap (g - l) l (gapsFrom x (g + 1) m (cond v (l + 1) 0)))
-
   from-same : (n m k : ℕ) → ((i : ℕ) → i < 512 * (k + m) → bitAt bits i ≡ bitAt bits′ i) → findFrom bits n k m ≡ findFrom bits′ n k m
   unfolding findFrom findInChunk gapsOf
   from-same n zero k h = refl
   from-same n (suc m) k h =
-      ap₂ (λ (x : List Gap) (y : Found). orElse (foundAt (shortest n noGap x)) y) (gaps-same 511 (512 * k + 1) 0 (λ i a b. h i (omega arith)))
+      ap₂ (λ (x : List Gap) (y : Found). orElse (foundAt (shortest n noGap x)) y) (gaps-same bits bits′ 511 (512 * k + 1) 0 (λ i a b. h i (omega arith)))
       (from-same n m (k + 1) (λ i a. h i (omega arith)))
 
   pub find-same : (c n : ℕ) → ((i : ℕ) → i < 512 * c → bitAt bits i ≡ bitAt bits′ i) → findPages c bits n ≡ findPages c bits′ n

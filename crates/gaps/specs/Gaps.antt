@@ -3,13 +3,15 @@
 -- Pages are counted through the pool, page p of chunk k as 512 * k + p, and bit g of the row of page bits is 1 where page g is taken.
 -- Assumes nothing.
 use mathlib.Core.Path.{_≡_}
-use mathlib.Core.Logic.{_↔_}
+use mathlib.Core.Logic.{_↔_, _⊎_}
 use mathlib.Core.Bool.{Bool, cond, _&&_}
 use mathlib.Core.List.{List, [], _∷_, List·Memᴰ}
-use Prim.Native.Nat.{ℕ, zero, suc, _+_, _-_, _*_, _/_, _≤_, _<_}
+use Prim.Native.Nat.{ℕ, zero, suc, _+_, _-_, _*_, _≤_, _<_}
+use lib.Bits.{differ}
 use lib.Dec.{eqb, ltb, leb}
-use Rattle.bitrow.specs.Row.{bitAt}
+use Rattle.bitrow.specs.Row.{bit, bitAt, putBit}
 use Rattle.gaps.specs.declared.Gap.{Gap}
+use Rattle.gaps.specs.declared.Search.{Search}
 use Rattle.gaps.specs.declared.Found.{Found}
 use Rattle.gaps.specs.declared.Found.the-variants.{At, Nothing}
 
@@ -69,18 +71,41 @@ findFrom bits n k (suc m) = orElse (findInChunk bits k n) (findFrom bits n (k + 
 unfoldable pub findPages : ℕ → List ℕ → ℕ → Found
 findPages c bits n = findFrom bits n 0 c
 
--- ---- the search reads a chunk from gap to gap
+-- ---- the search reads a chunk a word at a time, from edge to edge: an edge is a page whose bit differs from that of the page before it
 
--- behind the last page of page p's chunk
-abbrev pub endOf : ℕ → ℕ
-endOf p = 512 * (p / 512) + 512
+-- e has the edges of the word w from place o on, and nothing below it; v is the bit before place o
+pub record Edges (w o v e : ℕ) : Type 0 where
+  pub below : (i : ℕ) → i < o → bit e i ≡ 0
+  pub first : o < 64 → bit e o ≡ differ (bit w o) v
+  pub later : (i : ℕ) → o ≤ i → i + 1 < 64 → bit e (i + 1) ≡ differ (bit w (i + 1)) (bit w i)
 
--- x is the first gap of the pages from p up to, not including, e; it has no pages where they have no gap
-pub record NextGap (bits : List ℕ) (p e : ℕ) (x : Gap) : Type 0 where
-  pub low : p ≤ x .at
-  pub high : x .at + x .len ≤ e
-  pub passes : p < x .at + x .len
-  pub gaps : gapsFrom bits p (e - p) 0 ≡ withGap (x .at) (x .len) (gapsFrom bits (x .at + x .len) (e - (x .at + x .len)) 0)
+abbrev pub searching : ℕ → Gap → Search
+searching a b = record { start = a; best = b }
+
+-- the search behind the edge at page e
+unfoldable pub atEdge : ℕ → ℕ → ℕ → Search → Search
+atEdge n to e s = cond (ltb (s .start) e) (searching to (better n (gap (s .start) (e - s .start)) (s .best))) (searching e (s .best))
+
+-- what the search gives that has come to page g, in the pages up to, not including, `to`
+unfoldable pub ahead : List ℕ → ℕ → ℕ → ℕ → Search → Gap
+ahead bits n to g s = shortest n (s .best) (gapsFrom bits g (to - g) (g - s .start))
+
+-- at page g a gap is open or none is
+abbrev pub Ready : ℕ → ℕ → Search → Type 0
+Ready to g s = (s .start < g) ⊎ (s .start ≡ to)
+
+-- the word w shows the 64 pages from q on
+abbrev pub Shows : List ℕ → ℕ → ℕ → Type 0
+Shows bits q w = (i : ℕ) → i < 64 → bitAt bits (q + i) ≡ bit w i
+
+-- r is the search s behind the 64 pages from q on, which w shows
+pub record Searched (w q to n : ℕ) (s r : Search) : Type 0 where
+  pub ready : Ready to (q + 64) r
+  pub gives : (bits : List ℕ) → Shows bits q w → ahead bits n to (q + 64) r ≡ ahead bits n to q s
+
+-- the row with page 0 of chunk k taken
+unfoldable pub barred : List ℕ → ℕ → List ℕ
+barred bits k = putBit 1 bits (512 * k)
 
 -- ---- what these definitions mean
 

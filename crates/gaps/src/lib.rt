@@ -2,8 +2,9 @@
 // enough: nothing here leans on sound records.
 ghost use mathlib.Core.Path.{_≡_};
 ghost use Prim.Native.Nat.{_+_, _*_, _≤_, _<_};
-ghost use lib.ListN.{length};
-ghost use Rattle.gaps.specs.Gaps.{endOf, NextGap, better, shortest, gapsOf, findPages, GapsMean};
+ghost use lib.ListN.{length, getD};
+ghost use Rattle.bitrow.specs.Row.{digit, nextBit};
+ghost use Rattle.gaps.specs.Gaps.{better, shortest, gapsOf, findPages, Edges, atEdge, Ready, Searched, barred, GapsMean};
 
 // A gap: its first page, counted through the pool, and its number of pages.
 pub struct Gap {
@@ -11,21 +12,16 @@ pub struct Gap {
     pub len: usize,
 }
 
+// How far the search of a chunk has come: the first page of the open gap, or the chunk's end where none is open, and the best gap so far.
+pub struct Search {
+    pub start: usize,
+    pub best: Gap,
+}
+
 // Where pages were found.
 pub enum Found {
     At(usize),
     Nothing,
-}
-
-// The first gap from page p on, in p's chunk. It has no pages where there is none.
-fn next_gap(bits: &[u64], p: usize) -> Gap
-    requires { ⌜ (endOf p ≤ 64 * length (now bits)) × (p < 8192) ⌝ }
-    ensures { λ r. ⌜ NextGap (now (bits .entry)) p (endOf p) r ⌝ }
-{
-    let to = 512 * (p / 512) + 512;
-    let a = bitrow::next_bit(bits, p, to, false);
-    let e = bitrow::next_bit(bits, a, to, true);
-    Gap { at: a, len: e - a }
 }
 
 // The gap x, where it holds n pages and is shorter than the best one before it.
@@ -40,7 +36,76 @@ fn better_gap(best: Gap, n: usize, x: Gap) -> Gap
     best
 }
 
-// The shortest of the gap before and those gaps of chunk k that hold n pages. Page 0 is in none.
+// The edges of a word: the places whose bit differs from the one before it, which is `before` for the lowest.
+fn edges_of(w: u64, before: bool) -> u64
+    ensures { λ r. ⌜ Edges w 0 (digit before) r ⌝ }
+{
+    w ^ ((w << 1) | before as u64)
+}
+
+// The search behind the edge at page e: the open gap ends there, or one starts there.
+fn at_edge(s: Search, e: usize, to: usize, n: usize) -> Search
+    ensures { λ r. ⌜ r ≡ atEdge n to e s ⌝ }
+{
+    let a = s.start;
+    let best = s.best;
+    if a < e {
+        let best = better_gap(best, n, Gap { at: a, len: e - a });
+        return Search { start: to, best };
+    }
+    Search { start: e, best }
+}
+
+// The search behind the 64 pages from q on, which the word w shows. A gap of exactly n pages ends it: none that holds n is shorter, and
+// none of its length comes lower.
+fn best_in_word(w: u64, q: usize, to: usize, n: usize, s: Search) -> Search
+    requires room { ⌜ q + 64 ≤ to ⌝ }
+    requires some { ⌜ 1 ≤ n ⌝ }
+    requires ready { ⌜ Ready to q s ⌝ }
+    ensures { λ r. ⌜ Searched w q to n s r ⌝ }
+{
+    let mut edges = edges_of(w, q <= s.start);
+    let mut r = s;
+    while edges != 0 && r.best.len != n {
+        let e = q + u64::trailing_zeros(edges) as usize;
+        r = at_edge(r, e, to, n);
+        edges = edges & (edges - 1);
+    }
+    r
+}
+
+// Word i of chunk k's page bits. Page 0 is in no gap, so it is read as taken.
+fn page_word(bits: &[u64], k: usize, i: usize) -> u64
+    requires long { ⌜ 8 * k + 8 ≤ length (now bits) ⌝ }
+    requires low { ⌜ k < 16 ⌝ }
+    requires word { ⌜ i < 8 ⌝ }
+    ensures { λ r. ⌜ r ≡ getD (barred (now (bits .entry)) k) (8 * k + i) 0 ⌝ }
+{
+    let w = bits[8 * k + i];
+    if i == 0 { w | 1 } else { w }
+}
+
+// The first free page of chunk k, its end where it has none. One is added to each word, which finds the word's first free page, and a full
+// word stays full.
+fn first_free(bits: &[u64], k: usize) -> usize
+    requires long { ⌜ 8 * k + 8 ≤ length (now bits) ⌝ }
+    requires low { ⌜ k < 16 ⌝ }
+    ensures { λ r. ⌜ r ≡ nextBit 0 (barred (now (bits .entry)) k) (512 * k) 512 ⌝ }
+{
+    let mut i = 0;
+    while i < 8 {
+        let w = page_word(bits, k, i);
+        let t = bitrow::first_zero(w) as usize;
+        if t < 64 {
+            return 512 * k + 64 * i + t;
+        }
+        i += 1;
+    }
+    512 * k + 512
+}
+
+// The shortest of the gap before and those gaps of chunk k that hold n pages. A chunk with no free page has none. The loop counts eight
+// words, from the first on, so that the compiler writes them out one after the other: that is faster.
 fn best_in_chunk(bits: &[u64], k: usize, n: usize, before: Gap) -> Gap
     requires long { ⌜ 8 * k + 8 ≤ length (now bits) ⌝ }
     requires low { ⌜ k < 16 ⌝ }
@@ -48,14 +113,22 @@ fn best_in_chunk(bits: &[u64], k: usize, n: usize, before: Gap) -> Gap
     ensures { λ r. ⌜ r ≡ shortest n before (gapsOf (now (bits .entry)) k) ⌝ }
 {
     let to = 512 * k + 512;
-    let mut p = 512 * k + 1;
-    let mut best = before;
-    while p < to {
-        let x = next_gap(bits, p);
-        best = better_gap(best, n, x);
-        p = x.at + x.len;
+    if first_free(bits, k) == to {
+        return before;
     }
-    best
+    let mut i = 0;
+    let mut s = Search {
+        start: to,
+        best: before,
+    };
+    while i < 8 && s.best.len != n {
+        let w = page_word(bits, k, i);
+        s = best_in_word(w, 512 * k + 64 * i, to, n, s);
+        i += 1;
+    }
+    let a = s.start;
+    let best = s.best;
+    better_gap(best, n, Gap { at: a, len: to - a })
 }
 
 // The first page of n pages, in the first of c chunks that has them. A length of 512 stands for no gap.

@@ -1,5 +1,8 @@
-pub mod HasLaws
+pub mod OpenLaws
 pub mod RowLaws
-pub mod HintLaws
-pub mod MaskLaws
-pub mod Forms
+pub mod SlotLaws
+pub mod CutLaws
+pub mod TakeLaws
+pub mod FrontLaws
+pub mod NoteLaws
+pub mod GiveLaws

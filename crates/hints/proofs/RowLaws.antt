@@ -1,228 +1,224 @@
--- The row of hints: what it finds, how it changes, and how it starts. Assumes nothing.
+-- The rows of marks: the row of a class in all rows, how one mark changes, and what marks of a pool become. Assumes nothing.
 use mathlib.Core.Path.{_≡_, refl, sym, ap, ap₂, _∙_, subst}
-use mathlib.Core.Logic.{_≢_, by-cases}
-use mathlib.Core.Bool.{Bool, true, false, false≢true}
-use mathlib.Core.List.{List}
-use Prim.Native.Nat.{ℕ, _+_, _-_, _*_, _/_, _%_, _≤_, _<_}
+use mathlib.Core.Logic.{_≢_, _⊎_, inl, inr, by-cases}
+use mathlib.Core.Bool.{Bool, true, false, not, _&&_}
+use mathlib.Core.List.{List, _++_}
+use Prim.Native.Nat.{ℕ, _+_, _-_, _*_, _/_, _%_, _≤_, _<_, min}
 use native.Mathlib.Decide.{ℕ-discrete, decLt}
 use native.Mathlib.Omega.{arith}
 use lib.Dec.{eqb}
-use lib.ListN.{length, getD, set, length-set}
-use lib.Seq.{getD-set-same, getD-set-other}
-use Rattle.bitrow.specs.Row.{digit, bit, bitAt, isSet, nextBit, wordPut, putBit}
-use Rattle.bitrow.proofs.Words.{digit-lt, bit-of-zero}
-use Rattle.bitrow.proofs.Rows.{first-at}
-use Rattle.bitrow.proofs.Marks.{length-put-bit, is-set-same, is-set-other, one-set, zero-clear}
-use Rattle.classes.specs.Classes.{size, slots}
-use Rattle.records.specs.Pool.{Pool}
-use Rattle.reserve.specs.Reserve.{hasSlot, slotPage}
-use Rattle.reserve.proofs.PlanLaws.{Searched, searched}
-use Rattle.hints.specs.Hints.{Cuts, Hints, Cleared, Fresh, noted}
-use Rattle.hints.proofs.HasLaws.{fresh-has}
+use lib.ListN.{length, getD, set, take, drop, length-set, length-take, length-drop}
+use lib.Seq.{getD-set-same, getD-set-other, getD-take, getD-drop, take-at, drop-at, length-take-le, ext-getD}
+use borrow.Author.Tests.{lt-ltb}
+use borrow.Rule.Slice.PartMut.{putMid, same-len-mid, take-put, drop-put}
+use Rattle.bitrow.specs.Row.{digit, isSet, wordPut, putBit}
+use Rattle.bitrow.proofs.Words.{digit-lt}
+use Rattle.bitrow.proofs.Marks.{length-put-bit, is-set-same, is-set-other}
+use Rattle.records.specs.declared.Kind.{Kind}
+use Rattle.records.specs.declared.Kind.the-variants.{Class}
+use Rattle.records.specs.Pool.{Pool, kindAt}
+use Rattle.reserve.specs.Reserve.{hasSlot}
+use Rattle.hints.specs.Hints.{rowOf, Opens, Cut, hasTo, Row, Marks, marked, SameBut, Renewed}
+use Rattle.hints.proofs.OpenLaws.{open-same, open-has}
 
--- ---- what the row finds
+-- ---- the row of a class in all rows
 
-not-true : (v : Bool) → v ≢ true → v ≡ false
-not-true true n = absurd (n refl)
-not-true false n = refl
+pub row-at : (rows : List ℕ) (d i : ℕ) → i < 144 → getD (rowOf rows d) i 0 ≡ getD rows (144 * d + i) 0
+row-at rows d i k = getD-take 144 (drop (144 * d) rows) i 0 k ∙ getD-drop (144 * d) rows i 0
 
--- the page of which no earlier one has a free slot
-page-is : (p : Pool) (b n g : ℕ) → g ≤ n → ((i : ℕ) → i < g → hasSlot p b i ≡ false) → (g < n → hasSlot p b g ≡ true) → g ≡ slotPage p b 0 n
-page-is p b n g l before here = go (slotPage p b 0 n) (searched p b n 0)
+row-same : (l m : List ℕ) (d : ℕ) → length l ≡ length m → ((i : ℕ) → 144 * d ≤ i → i < 144 * d + 144 → getD l i 0 ≡ getD m i 0) → rowOf l d ≡ rowOf m d
+row-same l m d e h =
+    ext-getD 0 (rowOf l d) (rowOf m d) (long l ∙ ap (λ (x : ℕ). min 144 (x - 144 * d)) e ∙ sym (long m))
+    (λ i k. let w = long l in row-at l d i (omega arith) ∙ h (144 * d + i) (omega arith) (omega arith) ∙ sym (row-at m d i (omega arith)))
   where
-    go : (r : ℕ) → Searched p b 0 n r → g ≡ r
-    go r w =
-        let h = w .high in
-        by-cases (decLt g r) (λ x. absurd (false≢true (sym (w .before g (omega arith) x) ∙ here (omega arith))))
-        (λ x. by-cases (decLt r g) (λ y. absurd (false≢true (sym (before r y) ∙ w .here (omega arith)))) (λ y. omega arith))
+    long : (x : List ℕ) → length (rowOf x d) ≡ min 144 (length x - 144 * d)
+    long x = length-take 144 (drop (144 * d) x) ∙ ap (min 144) (length-drop (144 * d) x)
 
-module _ {c : ℕ} {p : Pool} {l : List ℕ} (h : Hints c p l) where
-  -- the first mark of class b from its lowest page on
-  pub marked : (b r : ℕ) → b < 30 → (n : ℕ) → n ≡ getD l (3840 + b) 0
-      → r ≡ nextBit 1 l (8192 * b + n) (8192 * b + 512 * c - (8192 * b + n)) → (8192 * b ≤ r) × (r - 8192 * b ≡ slotPage p b 0 (512 * c))
-  marked b r k n e f =
-      let o = h .bound b k in
-      let w = first-at l (8192 * b + n) (8192 * b + 512 * c) 1 r (omega arith) (omega arith) f in
-      let x = w .low in let y = w .high in
-      let back : 8192 * b + (r - 8192 * b) ≡ r = omega arith in (
-        omega arith,
-        page-is p b (512 * c) (r - 8192 * b) (omega arith)
-            (λ i m. by-cases (decLt i n)
-            (λ z. not-true (hasSlot p b i) (λ t. let q = h .low b i k (omega arith) t in omega arith))
-            (λ z. sym (h .marks b i k (omega arith)) ∙ zero-clear l (8192 * b + i) (w .below (8192 * b + i) (omega arith) (omega arith))))
-            (λ m. sym (h .marks b (r - 8192 * b) k m)
-            ∙ one-set l (8192 * b + (r - 8192 * b)) (ap (bitAt l) back ∙ w .here (omega arith))),
-      )
+-- the row of class b was lent as a part, and came back as e
+module _ (rows e : List ℕ) (b n : ℕ) (h : n ≡ 144) (bl : b < 30) (all : length rows ≡ 4320) (own : length e ≡ 144) where
+  abbrev back : List ℕ
+  back = putMid (144 * b) n rows e
 
--- ---- how it changes
+  pub part-own : rowOf back b ≡ e
+  part-own =
+      ap (take 144) (drop-at (take (144 * b) rows) (e ++ drop n (drop (144 * b) rows)) (144 * b) (length-take-le (144 * b) rows (omega arith)))
+      ∙ take-at e (drop n (drop (144 * b) rows)) 144 own
 
-module _ (l : List ℕ) (long : length l ≡ 3930) (b low g : ℕ) (v : Bool) (bl : b < 30) (gl : g < 8192) where
-  abbrev row : List ℕ
-  row = set l (3840 + b) low
+  pub part-long : length back ≡ length rows
+  part-long =
+      same-len-mid (144 * b) n rows e
+      (own ∙ sym h ∙ sym (length-take-le n (drop (144 * b) rows) (let l = length-drop (144 * b) rows in omega arith)))
 
-  row-long : length row ≡ 3930
-  row-long = length-set l (3840 + b) low ∙ long
+  part-at : (i : ℕ) → (i < 144 * b) ⊎ (144 * b + 144 ≤ i) → getD back i 0 ≡ getD rows i 0
+  part-at i (inl l) =
+      sym (getD-take (144 * b) back i 0 l) ∙ ap (λ (x : List ℕ). getD x i 0) (take-put (144 * b) n rows e (omega arith))
+      ∙ getD-take (144 * b) rows i 0 l
+  part-at i (inr l) =
+      let to : ℕ = 144 * b + 144 in
+      let m : n ≡ to - 144 * b = omega arith in
+      let j : i ≡ to + (i - to) = omega arith in
+      ap₂ (λ (x k : ℕ). getD (putMid (144 * b) k rows e) x 0) j m
+      ∙ sym (getD-drop to (putMid (144 * b) (to - 144 * b) rows e) (i - to) 0)
+      ∙ ap (λ (x : List ℕ). getD x (i - to) 0) (drop-put (144 * b) to rows e (omega arith) (omega arith) (omega arith))
+      ∙ getD-drop to rows (i - to) 0 ∙ ap (λ (x : ℕ). getD rows x 0) (sym j)
 
-  noted-long : length (noted l b low g v) ≡ 3930
-  unfolding noted
-  noted-long = length-put-bit (digit v) row (8192 * b + g) ∙ row-long
+  pub part-other : (d : ℕ) → d < 30 → d ≢ b → rowOf back d ≡ rowOf rows d
+  part-other d l x =
+      row-same back rows d part-long
+      (λ i u v. part-at i (by-cases (decLt d b) (λ y. inl (omega arith)) (λ y. inr (omega arith))))
 
-  noted-here : isSet (noted l b low g v) (8192 * b + g) ≡ v
-  unfolding noted
-  noted-here = let r = row-long in is-set-same (digit v) row (8192 * b + g) (digit-lt v) (omega arith) ∙ own v
+-- ---- one mark
+
+eqb-digit : (v : Bool) → eqb (digit v) 1 ≡ v
+eqb-digit true = refl
+eqb-digit false = refl
+
+module _ (row : List ℕ) (g : ℕ) (v : Bool) (long : length row ≡ 144) (gl : g < 8192) where
+  -- the row with the mark, before its top bit
+  abbrev low : List ℕ
+  low = putBit (digit v) row g
+
+  abbrev top : Bool
+  top = not (eqb (getD low (g / 64) 0) 0)
+
+  low-long : length low ≡ 144
+  low-long = length-put-bit (digit v) row g ∙ long
+
+  pub marked-long : length (marked row g v) ≡ 144
+  unfolding marked
+  marked-long = length-put-bit (digit top) low (8192 + g / 64) ∙ low-long
+
+  pub marked-here : isSet (marked row g v) g ≡ v
+  unfolding marked
+  marked-here =
+      let l = low-long in
+      is-set-other (digit top) low (8192 + g / 64) (digit-lt top) (omega arith) g (omega arith)
+      ∙ is-set-same (digit v) row g (digit-lt v) (omega arith) ∙ eqb-digit v
+
+  pub marked-other : (i : ℕ) → i < 8192 → i ≢ g → isSet (marked row g v) i ≡ isSet row i
+  unfolding marked
+  marked-other i k n =
+      let l = low-long in
+      is-set-other (digit top) low (8192 + g / 64) (digit-lt top) (omega arith) i (omega arith)
+      ∙ is-set-other (digit v) row g (digit-lt v) (omega arith) i n
+
+  -- a word other than the top word that changes
+  word-low : (j : ℕ) → j ≢ 128 + g / 64 / 64 → getD (marked row g v) j 0 ≡ getD low j 0
+  unfolding marked putBit
+  word-low j n =
+      let i : (8192 + g / 64) / 64 ≡ 128 + g / 64 / 64 = omega arith in
+      getD-set-other low ((8192 + g / 64) / 64) j
+      (wordPut (digit top) (getD low ((8192 + g / 64) / 64) 0) ((8192 + g / 64) % 64)) 0 (λ e. n (e ∙ i))
+
+  low-kept : (j : ℕ) → j ≢ g / 64 → getD low j 0 ≡ getD row j 0
+  unfolding putBit
+  low-kept j n = getD-set-other row (g / 64) j (wordPut (digit v) (getD row (g / 64) 0) (g % 64)) 0 n
+
+  pub marked-word : (j : ℕ) → 130 ≤ j → getD (marked row g v) j 0 ≡ getD row j 0
+  marked-word j k = word-low j (omega arith) ∙ low-kept j (omega arith)
+
+  top-set : isSet (marked row g v) (8192 + g / 64) ≡ top
+  unfolding marked
+  top-set = let l = low-long in is-set-same (digit top) low (8192 + g / 64) (digit-lt top) (omega arith) ∙ eqb-digit top
+
+  top-kept : (j : ℕ) → j < 128 → j ≢ g / 64 → isSet (marked row g v) (8192 + j) ≡ isSet row (8192 + j)
+  unfolding marked
+  top-kept j k n =
+      let l = low-long in
+      is-set-other (digit top) low (8192 + g / 64) (digit-lt top) (omega arith) (8192 + j) (λ e. n (omega arith))
+      ∙ is-set-other (digit v) row g (digit-lt v) (omega arith) (8192 + j) (omega arith)
+
+  pub marked-tops : ((j : ℕ) → j < 128 → isSet row (8192 + j) ≡ not (eqb (getD row j 0) 0))
+      → (j : ℕ) → j < 128 → isSet (marked row g v) (8192 + j) ≡ not (eqb (getD (marked row g v) j 0) 0)
+  marked-tops h j k = by-cases (ℕ-discrete j (g / 64)) here else ∙ ap (λ (w : ℕ). not (eqb w 0)) (sym (word-low j (omega arith)))
     where
-      own : (t : Bool) → eqb (digit t) 1 ≡ t
-      own true = refl
-      own false = refl
+      here : j ≡ g / 64 → isSet (marked row g v) (8192 + j) ≡ not (eqb (getD low j 0) 0)
+      here e = ap (λ (x : ℕ). isSet (marked row g v) (8192 + x)) e ∙ top-set ∙ ap (λ (x : ℕ). not (eqb (getD low x 0) 0)) (sym e)
 
-  noted-other : (j : ℕ) → j < 245760 → j ≢ 8192 * b + g → isSet (noted l b low g v) j ≡ isSet l j
-  unfolding noted isSet bitAt
-  noted-other j m n =
-      let r = row-long in
-      is-set-other (digit v) row (8192 * b + g) (digit-lt v) (omega arith) j n
-      ∙ ap (λ (w : ℕ). eqb (bit w (j % 64)) 1) (getD-set-other l (3840 + b) (j / 64) low 0 (omega arith))
+      else : j ≢ g / 64 → isSet (marked row g v) (8192 + j) ≡ not (eqb (getD low j 0) 0)
+      else n = top-kept j k n ∙ h j k ∙ ap (λ (w : ℕ). not (eqb w 0)) (sym (low-kept j n))
 
-  noted-word : (j : ℕ) → 3840 ≤ j → getD (noted l b low g v) j 0 ≡ getD row j 0
-  unfolding noted putBit
-  noted-word j m =
-      let i : ℕ = (8192 * b + g) / 64 in
-      getD-set-other row i j (wordPut (digit v) (getD row i 0) ((8192 * b + g) % 64)) 0 (omega arith)
+pub opens-same : (ss ss′ : List ℕ) (b g o : ℕ) → ((k : ℕ) → k < 8 → getD ss (8 * g + k) 0 ≡ getD ss′ (8 * g + k) 0) → Opens ss b g o → Opens ss′ b g o
+opens-same ss ss′ b g o e h = record { byte = h .byte; which = λ k l. h .which k l ∙ ap digit (open-same ss ss′ b g k (e k l)) }
 
-  noted-low : getD (noted l b low g v) (3840 + b) 0 ≡ low
-  noted-low = noted-word (3840 + b) (omega arith) ∙ getD-set-same l (3840 + b) low 0 (omega arith)
+-- ---- marks of a pool that changed at the run of class b at page g
 
-  noted-kept : (j : ℕ) → 3840 ≤ j → j ≢ 3840 + b → getD (noted l b low g v) j 0 ≡ getD l j 0
-  noted-kept j m n = noted-word j m ∙ getD-set-other l (3840 + b) j low 0 n
-
-noted-cuts : (l : List ℕ) → Cuts l → (b low g : ℕ) (v : Bool) → b < 30 → g < 8192 → Cuts (noted l b low g v)
-noted-cuts l h b low g v bl gl =
+pub cut-kept : (b : ℕ) (row : List ℕ) (g : ℕ) (v : Bool) → g < 8192 → Cut b row → Cut b (marked row g v)
+cut-kept b row g v l h =
     record {
-      long = noted-long l (h .long) b low g v bl gl;
-      sizes = λ d k. noted-kept l (h .long) b low g v bl gl (3870 + d) (omega arith) (omega arith) ∙ h .sizes d k;
-      counts = λ d k. noted-kept l (h .long) b low g v bl gl (3900 + d) (omega arith) (omega arith) ∙ h .counts d k;
+      long = marked-long row g v (h .long) l;
+      masks = λ k m. marked-word row g v (h .long) l (130 + k) (omega arith) ∙ h .masks k m;
+      bytes = marked-word row g v (h .long) l 138 (omega arith) ∙ h .bytes;
+      count = marked-word row g v (h .long) l 139 (omega arith) ∙ h .count;
+      share = marked-word row g v (h .long) l 140 (omega arith) ∙ h .share;
     }
 
--- records of which the same runs have a free slot
-pub same : {c : ℕ} {p q : Pool} {l : List ℕ} → Hints c p l → ((d i : ℕ) → i < 512 * c → hasSlot p d i ≡ hasSlot q d i) → Hints c q l
-same h e =
-    record {
-      cuts = h .cuts;
-      marks = λ d i k m. h .marks d i k m ∙ e d i m;
-      low = λ d i k m t. h .low d i k m (e d i m ∙ t);
-      bound = h .bound;
-    }
+class-of : (b d : ℕ) (x : Kind) → x ≡ Class b → x ≡ Class d → b ≡ d
+class-of b d x e f = cc
 
--- records of which the same runs have a free slot, but for the run of class b at page g
-pub kept : {c : ℕ} {p q : Pool} {l : List ℕ} → Hints c p l → c ≤ 16 → (b g low : ℕ) → b < 30 → g < 512 * c → low ≤ 512 * c
-    → ((d i : ℕ) → i < 512 * c → (b ≡ d → i ≢ g) → hasSlot p d i ≡ hasSlot q d i) → (v : Bool) → v ≡ hasSlot q b g
-    → ((i : ℕ) → i < 512 * c → hasSlot q b i ≡ true → low ≤ i) → Hints c q (noted l b low g v)
-kept {c} {p} {q} {l} h few b g low bl gl ll others v here least =
-    record {
-      cuts = noted-cuts l (h .cuts) b low g v bl (omega arith);
-      marks = marks;
-      low = lows;
-      bound = bounds;
-    }
-  where
-    lows-of : (d : ℕ) → d < 30 → d ≢ b → getD (noted l b low g v) (3840 + d) 0 ≡ getD l (3840 + d) 0
-    lows-of d k n = noted-kept l (h .cuts .long) b low g v bl (omega arith) (3840 + d) (omega arith) (omega arith)
-
-    low-here : getD (noted l b low g v) (3840 + b) 0 ≡ low
-    low-here = noted-low l (h .cuts .long) b low g v bl (omega arith)
-
-    marks : (d i : ℕ) → d < 30 → i < 512 * c → isSet (noted l b low g v) (8192 * d + i) ≡ hasSlot q d i
-    marks d i k m =
-        by-cases (ℕ-discrete (8192 * d + i) (8192 * b + g))
-        (λ x. let y : d ≡ b = omega arith in let z : i ≡ g = omega arith in
-        ap (isSet (noted l b low g v)) x ∙ noted-here l (h .cuts .long) b low g v bl (omega arith) ∙ here ∙ sym (ap₂ (hasSlot q) y z))
-        (λ x. noted-other l (h .cuts .long) b low g v bl (omega arith) (8192 * d + i) (omega arith) x
-        ∙ h .marks d i k m ∙ others d i m (λ y z. x (omega arith)))
-
-    lows : (d i : ℕ) → d < 30 → i < 512 * c → hasSlot q d i ≡ true → getD (noted l b low g v) (3840 + d) 0 ≤ i
-    lows d i k m t =
-        by-cases (ℕ-discrete d b)
-        (λ x. let e = low-here in
-        let y = least i m (ap (λ (a : ℕ). hasSlot q a i) (sym x) ∙ t) in
-        subst (λ (a : ℕ). getD (noted l b low g v) (3840 + a) 0 ≤ i) (sym x) (omega arith))
-        (λ x. let e = lows-of d k x in
-        let y = h .low d i k m (others d i m (λ z. absurd (x (sym z))) ∙ t) in omega arith)
-
-    bounds : (d : ℕ) → d < 30 → getD (noted l b low g v) (3840 + d) 0 ≤ 512 * c
-    bounds d k =
-        by-cases (ℕ-discrete d b)
-        (λ x. let e = low-here in subst (λ (a : ℕ). getD (noted l b low g v) (3840 + a) 0 ≤ 512 * c) (sym x) (omega arith))
-        (λ x. let e = lows-of d k x in let y = h .bound d k in omega arith)
-
--- ---- beside fresh records
-
-pub cleared-none : (l : List ℕ) → length l ≡ 3930 → Cleared l 0
-cleared-none l e = record { long = e; zero = λ k m. absurd (omega arith) }
-
-pub cleared-on : {l : List ℕ} {i : ℕ} → Cleared l i → i < 3930 → Cleared (set l i 0) (i + 1)
-cleared-on {l} {i} h m =
-    let n = h .long in
-    record {
-      long = length-set l i 0 ∙ h .long;
-      zero =
-          λ k x. by-cases (ℕ-discrete k i) (λ e. ap (λ (j : ℕ). getD (set l i 0) j 0) e ∙ getD-set-same l i 0 0 (omega arith))
-          (λ e. getD-set-other l i k 0 0 e ∙ h .zero k (omega arith));
-    }
-
-pub cleared-all : {l : List ℕ} {i : ℕ} → Cleared l i → 3930 ≤ i → Cleared l 3930
-cleared-all h m = record { long = h .long; zero = λ k x. h .zero k (omega arith) }
-
--- the numbers of the first n classes are written
-pub record Rowed (l : List ℕ) (n : ℕ) : Type 0 where
-  pub long : length l ≡ 3930
-  pub zero : (k : ℕ) → k < 3870 → getD l k 0 ≡ 0
-  pub sizes : (b : ℕ) → b < n → getD l (3870 + b) 0 ≡ size b
-  pub counts : (b : ℕ) → b < n → getD l (3900 + b) 0 ≡ slots b
-
-pub rowed-none : {l : List ℕ} → Cleared l 3930 → Rowed l 0
-rowed-none h =
-    record {
-      long = h .long;
-      zero = λ k m. h .zero k (omega arith);
-      sizes = λ b m. absurd (omega arith);
-      counts = λ b m. absurd (omega arith);
-    }
-
-module _ {l : List ℕ} {b : ℕ} (h : Rowed l b) (bl : b < 30) (z n : ℕ) (e : z ≡ size b) (f : n ≡ slots b) where
-  abbrev next : List ℕ
-  next = set (set l (3870 + b) z) (3900 + b) n
-
-  next-other : (k : ℕ) → k ≢ 3870 + b → k ≢ 3900 + b → getD next k 0 ≡ getD l k 0
-  next-other k x y = getD-set-other (set l (3870 + b) z) (3900 + b) k n 0 y ∙ getD-set-other l (3870 + b) k z 0 x
-
-  pub rowed-on : Rowed next (b + 1)
-  rowed-on =
-      let m = h .long in
-      let m′ = length-set l (3870 + b) z in
+module _ {n : ℕ} {p : Pool} {rows opens : List ℕ} (h : Marks n p rows opens) {m : ℕ} {q : Pool} (b g o : ℕ) (bl : b < 30) (gl : g < 8192)
+    (same : SameBut n p m q b g) (free : Opens (q .slots) b g o) (has : hasSlot q b g ≡ not (eqb o 0)) (rows′ opens′ : List ℕ)
+    (own : rowOf rows′ b ≡ marked (rowOf rows b) g (not (eqb o 0)))
+    (other : (d : ℕ) → d < 30 → d ≢ b → rowOf rows′ d ≡ rowOf rows d) (long : length rows′ ≡ 4320) (put : opens′ ≡ set opens g o) where
+  own-row : Row m q b (marked (rowOf rows b) g (not (eqb o 0)))
+  own-row =
+      let r = h .row b bl in let len = h .cuts .cut b bl .long in
       record {
-        long = length-set (set l (3870 + b) z) (3900 + b) n ∙ length-set l (3870 + b) z ∙ h .long;
-        zero = λ k x. next-other k (omega arith) (omega arith) ∙ h .zero k x;
-        sizes =
-            λ d x. by-cases (ℕ-discrete d b)
-            (λ y. ap (λ (j : ℕ). getD next (3870 + j) 0) y
-            ∙ getD-set-other (set l (3870 + b) z) (3900 + b) (3870 + b) n 0 (omega arith) ∙ getD-set-same l (3870 + b) z 0 (omega arith) ∙ e
-            ∙ ap size (sym y))
-            (λ y. next-other (3870 + d) (omega arith) (omega arith) ∙ h .sizes d (omega arith));
-        counts =
-            λ d x. by-cases (ℕ-discrete d b)
-            (λ y. ap (λ (j : ℕ). getD next (3900 + j) 0) y
-            ∙ getD-set-same (set l (3870 + b) z) (3900 + b) n 0 (omega arith) ∙ f ∙ ap slots (sym y))
-            (λ y. next-other (3900 + d) (omega arith) (omega arith) ∙ h .counts d (omega arith));
+        marks =
+            λ i l. by-cases (ℕ-discrete i g)
+            (λ e. ap (isSet (marked (rowOf rows b) g (not (eqb o 0)))) e ∙ marked-here (rowOf rows b) g (not (eqb o 0)) len gl ∙ sym has
+            ∙ ap (λ (t : Bool). t && hasSlot q b g) (sym (lt-ltb g m (same .inside))) ∙ ap (hasTo m q b) (sym e))
+            (λ e. marked-other (rowOf rows b) g (not (eqb o 0)) len gl i l e ∙ r .marks i l ∙ same .has b i l (λ _. e));
+        tops = marked-tops (rowOf rows b) g (not (eqb o 0)) len gl (r .tops);
       }
 
-pub rowed-all : {l : List ℕ} {n : ℕ} → Rowed l n → 30 ≤ n → Fresh l
-unfolding isSet bitAt
-rowed-all {l} {n} h m c few =
-    record {
-      cuts = record { long = h .long; sizes = λ b k. h .sizes b (omega arith); counts = λ b k. h .counts b (omega arith) };
-      marks =
-          λ b g k x.
-          ap (λ (w : ℕ). eqb (bit w ((8192 * b + g) % 64)) 1) (h .zero ((8192 * b + g) / 64) (omega arith))
-          ∙ ap (λ (w : ℕ). eqb w 1) (bit-of-zero ((8192 * b + g) % 64)) ∙ sym (fresh-has c b g x);
-      low = λ b g k x t. absurd (false≢true (sym (fresh-has c b g x) ∙ t));
-      bound = λ b k. let z = h .zero (3840 + b) (omega arith) in omega arith;
-    }
+  other-row : (d : ℕ) → d < 30 → d ≢ b → Row m q d (rowOf rows d)
+  other-row d l e =
+      let r = h .row d l in
+      record { marks = λ i k. r .marks i k ∙ same .has d i k (λ x. absurd (e (sym x))); tops = r .tops }
+
+  opens-of : (d i : ℕ) → i < m → kindAt q i ≡ Class d → Opens (q .slots) d i (getD opens′ i 0)
+  opens-of d i l k =
+      by-cases (ℕ-discrete i g)
+      (λ e. let w = h .wide in
+      let at : o ≡ getD opens′ i 0 = sym (ap₂ (λ (x : List ℕ) (j : ℕ). getD x j 0) put e ∙ getD-set-same opens g o 0 (omega arith)) in
+      let class : b ≡ d = class-of b d (kindAt q i) (ap (kindAt q) e ∙ same .here) k in
+      subst (Opens (q .slots) d i) at
+      (subst (λ (x : ℕ). Opens (q .slots) x i o) class (subst (λ (x : ℕ). Opens (q .slots) b x o) (sym e) free)))
+      (λ e. let (a, f) = same .kind d i l e k in
+      let at : getD opens i 0 ≡ getD opens′ i 0 = sym (ap (λ (x : List ℕ). getD x i 0) put ∙ getD-set-other opens g i o 0 e) in
+      subst (Opens (q .slots) d i) at (opens-same (p .slots) (q .slots) d i (getD opens i 0) (λ j x. same .words i j l x e) (h .byte d i a f)))
+
+  pub noted : Marks m q rows′ opens′
+  noted =
+      record {
+        cuts = record { long = long; cut = cuts };
+        wide = ap length put ∙ length-set opens g o ∙ h .wide;
+        row = rows-of;
+        byte = opens-of;
+      }
+    where
+      cuts : (d : ℕ) → d < 30 → Cut d (rowOf rows′ d)
+      cuts d l =
+          by-cases (ℕ-discrete d b)
+          (λ e. subst (λ (x : ℕ). Cut x (rowOf rows′ x)) (sym e)
+          (subst (Cut b) (sym own) (cut-kept b (rowOf rows b) g (not (eqb o 0)) gl (h .cuts .cut b bl))))
+          (λ e. subst (Cut d) (sym (other d l e)) (h .cuts .cut d l))
+
+      rows-of : (d : ℕ) → d < 30 → Row m q d (rowOf rows′ d)
+      rows-of d l =
+          by-cases (ℕ-discrete d b)
+          (λ e. subst (λ (x : ℕ). Row m q x (rowOf rows′ x)) (sym e) (subst (Row m q b) (sym own) own-row))
+          (λ e. subst (Row m q d) (sym (other d l e)) (other-row d l e))
+
+-- the row of class b was lent as a part, looked at anew, and came back
+pub part-noted : {n : ℕ} {p : Pool} {rows opens : List ℕ} → Marks n p rows opens → {m : ℕ} {q : Pool} (b k : ℕ) → b < 30 → k ≡ 144
+    → {row row′ opens′ : List ℕ} → row ≡ rowOf rows b → Renewed n p m q b row opens row′ opens′ → Marks m q (putMid (144 * b) k rows row′) opens′
+part-noted {n} {p} {rows} {opens} h {m} {q} b k bl e {row} {row′} {opens′} r f =
+    let all = h .cuts .long in
+    let is : row′ ≡ marked (rowOf rows b) (f .page) (not (eqb (f .byte) 0)) = f .mark ∙ ap (λ (x : List ℕ). marked x (f .page) (not (eqb (f .byte) 0))) r in
+    let own : length row′ ≡ 144 = ap length is ∙ marked-long (rowOf rows b) (f .page) (not (eqb (f .byte) 0)) (h .cuts .cut b bl .long) (f .low) in
+    noted h b (f .page) (f .byte) bl (f .low) (f .same) (f .which)
+    (open-has (f .page + 1) q b (f .page) (f .byte) (omega arith) (f .same .here) (f .which))
+    (putMid (144 * b) k rows row′) opens′ (part-own rows row′ b k e bl all own ∙ is) (part-other rows row′ b k e bl all own)
+    (part-long rows row′ b k e bl all own ∙ all) (f .put)

@@ -1,100 +1,207 @@
--- What is kept beside sound records by a caller that reserves and releases many times, so that no call walks the pages. Assumes nothing.
+-- Marks beside sound records, for a caller that reserves and releases many times: where the free slots of each class are, in levels of one
+-- word each, so that the lowest one is found in a fixed number of steps, however many chunks there are. Assumes nothing.
 use mathlib.Core.Path.{_≡_}
-use mathlib.Core.Logic.{_⊎_}
-use mathlib.Core.Bool.{Bool, true}
+use mathlib.Core.Logic.{_≢_, _⊎_}
+use mathlib.Core.Bool.{Bool, not, cond, _&&_}
 use mathlib.Core.List.{List}
-use Prim.Native.Nat.{ℕ, _+_, _*_, _≤_, _<_, min}
-use lib.Bits.{bitAnd}
-use lib.Dec.{ltb}
-use lib.ListN.{length, getD, set}
-use Rattle.bitrow.specs.Row.{digit, bitAt, isSet, putBit}
-use Rattle.classes.specs.Classes.{size, slots}
-use Rattle.records.specs.Pool.{Pool}
-use Rattle.records.specs.Calls.{Left, leaves, freshPool}
-use Rattle.reserve.specs.declared.Reserved.{Reserved}
-use Rattle.reserve.specs.declared.Plan.{Plan}
-use Rattle.reserve.specs.declared.Plan.the-variants.{Refuse, TakeSlot, NewClass, NewLarge}
-use Rattle.reserve.specs.Reserve.{lowestFree, hasSlot, plan, perform, answer}
-use Rattle.release.specs.declared.Spot.{Spot}
-use Rattle.release.specs.declared.Spot.the-variants.{Nowhere, Run, Slot}
+use Prim.Native.Nat.{ℕ, _+_, _-_, _*_, _/_, _%_, _^_, _≤_, _<_, min}
+use lib.Dec.{eqb, ltb}
+use lib.ListN.{length, getD, set, take, drop}
+use Rattle.bitrow.specs.Row.{digit, bit, isSet, Lowest, nextBit, putBit}
+use Rattle.bitrow.specs.Mask.{maskOf}
+use Rattle.classes.specs.Classes.{size, slots, pages}
+use Rattle.records.specs.declared.Kind.the-variants.{Class}
+use Rattle.records.specs.Pool.{Pool, kindAt}
+use Rattle.records.specs.Calls.{Left, leaves}
+use Rattle.blocks.specs.Stores.{putSlot, Good}
+use Rattle.reserve.specs.Reserve.{lowestFree, hasSlot, slotPage}
+use Rattle.release.specs.Release.{slotSpot, released, giveBack}
 
--- ---- the row of 3,930 numbers
+-- ---- the numbers of a row: 30 rows of 144 numbers, one for each class
 
--- the numbers of each class: the slot size of class b at 3870 + b, its slots in a run at 3900 + b
-pub record Cuts (l : List ℕ) : Type 0 where
-  pub long : length l ≡ 3930
-  pub sizes : (b : ℕ) → b < 30 → getD l (3870 + b) 0 ≡ size b
-  pub counts : (b : ℕ) → b < 30 → getD l (3900 + b) 0 ≡ slots b
+-- words 0 to 127: the marks, a bit for each page. Words 128 and 129: the tops, a bit for each word of marks
+abbrev pub topAt : ℕ
+topAt = 128
 
-pub record Hints (c : ℕ) (p : Pool) (l : List ℕ) : Type 0 where
-  pub cuts : Cuts l
-  -- bit 8192 * b + g says whether a run of class b that has a free slot starts at page g
-  pub marks : (b g : ℕ) → b < 30 → g < 512 * c → isSet l (8192 * b + g) ≡ hasSlot p b g
-  -- and none starts below the page at 3840 + b
-  pub low : (b g : ℕ) → b < 30 → g < 512 * c → hasSlot p b g ≡ true → getD l (3840 + b) 0 ≤ g
-  pub bound : (b : ℕ) → b < 30 → getD l (3840 + b) 0 ≤ 512 * c
+-- words 130 to 137: the bits that the slots of a run have in each of its eight slot words
+abbrev pub maskAt : ℕ
+maskAt = 130
+
+-- the slot size, the slots of a run, and 2 ^ 32 divided by the slot size, rounded up
+abbrev pub sizeAt : ℕ
+sizeAt = 138
+
+abbrev pub countAt : ℕ
+countAt = 139
+
+abbrev pub shareAt : ℕ
+shareAt = 140
+
+abbrev pub rowLength : ℕ
+rowLength = 144
+
+-- the row of class b
+abbrev pub rowOf : List ℕ → ℕ → List ℕ
+rowOf rows b = take rowLength (drop (rowLength * b) rows)
+
+-- ---- what they say
+
+-- how many slots of a run of class b have their bits in its slot word k
+abbrev pub slotsIn : ℕ → ℕ → ℕ
+slotsIn b k = min 64 (slots b - 64 * k)
+
+-- one of these is free, in the run at page g
+unfoldable pub openAt : List ℕ → ℕ → ℕ → ℕ → Bool
+openAt ss b g k = ltb (nextBit 0 ss (512 * g + 64 * k) (slotsIn b k)) (512 * g + 64 * k + slotsIn b k)
+
+-- the byte o says which slot words of the run of class b at page g have a free slot
+pub record Opens (ss : List ℕ) (b g o : ℕ) : Type 0 where
+  pub byte : o < 256
+  pub which : (k : ℕ) → k < 8 → bit o k ≡ digit (openAt ss b g k)
+
+-- the numbers of class b stand in its row
+pub record Cut (b : ℕ) (row : List ℕ) : Type 0 where
+  pub long : length row ≡ 144
+  pub masks : (k : ℕ) → k < 8 → getD row (maskAt + k) 0 ≡ maskOf 0 (slotsIn b k)
+  pub bytes : getD row sizeAt 0 ≡ size b
+  pub count : getD row countAt 0 ≡ slots b
+  pub share : getD row shareAt 0 ≡ 4294967295 / size b + 1
+
+-- the numbers of all classes stand in their rows
+pub record Cuts (rows : List ℕ) : Type 0 where
+  pub long : length rows ≡ 4320
+  pub cut : (b : ℕ) → b < 30 → Cut b (rowOf rows b)
+
+-- of the first n pages, page g has a run of class b with a free slot
+abbrev pub hasTo : ℕ → Pool → ℕ → ℕ → Bool
+hasTo n p b g = ltb g n && hasSlot p b g
+
+-- the marks of class b in its row
+pub record Row (n : ℕ) (p : Pool) (b : ℕ) (row : List ℕ) : Type 0 where
+  -- a page has a mark where a run of the class with a free slot starts
+  pub marks : (g : ℕ) → g < 8192 → isSet row g ≡ hasTo n p b g
+  -- a word of marks has a top bit where it has a mark
+  pub tops : (j : ℕ) → j < 128 → isSet row (8192 + j) ≡ not (eqb (getD row j 0) 0)
+
+-- the marks of the first n pages of the pool p: all rows, and a byte for each page at which a class run starts
+pub record Marks (n : ℕ) (p : Pool) (rows opens : List ℕ) : Type 0 where
+  pub cuts : Cuts rows
+  pub wide : length opens ≡ 8192
+  pub row : (b : ℕ) → b < 30 → Row n p b (rowOf rows b)
+  pub byte : (b g : ℕ) → g < n → kindAt p g ≡ Class b → Opens (p .slots) b g (getD opens g 0)
+
+-- ---- how they start
 
 -- the first n numbers are 0
-pub record Cleared (l : List ℕ) (n : ℕ) : Type 0 where
-  pub long : length l ≡ 3930
-  pub zero : (k : ℕ) → k < n → getD l k 0 ≡ 0
+pub record Cleared (rows : List ℕ) (n : ℕ) : Type 0 where
+  pub long : length rows ≡ 4320
+  pub zero : (i : ℕ) → i < n → getD rows i 0 ≡ 0
 
--- the row beside fresh records of any number of chunks
-abbrev pub Fresh : List ℕ → Type 0
-Fresh l = (c : ℕ) → c ≤ 16 → Hints c (freshPool c) l
+-- the masks of the first k slot words of a run of n slots were written into a row, and no word of marks or tops
+pub record Masked (row row′ : List ℕ) (n k : ℕ) : Type 0 where
+  pub long : length row′ ≡ 144
+  pub masks : (j : ℕ) → j < k → getD row′ (maskAt + j) 0 ≡ maskOf 0 (min 64 (n - 64 * j))
+  pub same : (j : ℕ) → j < maskAt → getD row′ j 0 ≡ getD row j 0
 
--- ---- what a plan comes to
+-- the numbers of class b were written into a row, and no word of marks or tops
+pub record Written (b : ℕ) (row row′ : List ℕ) : Type 0 where
+  pub cut : Cut b row′
+  pub same : (j : ℕ) → j < maskAt → getD row′ j 0 ≡ getD row j 0
 
-abbrev pub carried : Pool → Plan → Left Reserved Pool
-carried p x = leaves (answer x) (perform p x)
+-- the numbers of all classes, and no mark: the marks of no page
+abbrev pub Blank : List ℕ → Type 0
+Blank rows = (p : Pool) (opens : List ℕ) → length opens ≡ 8192 → Marks 0 p rows opens
 
--- it is the plan for some number of bytes
-abbrev pub IsPlan : ℕ → Pool → Plan → Type 0
-IsPlan c p x = (n : ℕ) × (x ≡ plan c p n)
+-- the byte o says which of the first n slot words of page g are not the mask in the row
+pub record Asked (ss row : List ℕ) (g n o : ℕ) : Type 0 where
+  pub byte : o < 2 ^ n
+  pub which : (k : ℕ) → k < n → bit o k ≡ digit (not (eqb (getD ss (8 * g + k) 0) (getD row (maskAt + k) 0)))
 
--- ---- how it changes
+-- ---- how they change
 
--- page g of class b gets the mark v, and the class the lowest page `low`
-unfoldable pub noted : List ℕ → ℕ → ℕ → ℕ → Bool → List ℕ
-noted l b low g v = putBit (digit v) (set l (3840 + b) low) (8192 * b + g)
+-- the row with the mark v at page g, and the top bit of its word
+unfoldable pub marked : List ℕ → ℕ → Bool → List ℕ
+marked row g v =
+    let r = putBit (digit v) row g in
+    putBit (digit (not (eqb (getD r (g / 64) 0) 0))) r (8192 + g / 64)
 
--- a slot of the run of class b at page g was taken: it was the lowest free one
-unfoldable pub notedSlot : List ℕ → List ℕ → ℕ → ℕ → List ℕ
-notedSlot ss l g b = noted l b g g (ltb (lowestFree ss b g) (slots b))
+-- what the first m pages of q have is what the first n of p have, but for the run of class b at page g of q
+pub record SameBut (n : ℕ) (p : Pool) (m : ℕ) (q : Pool) (b g : ℕ) : Type 0 where
+  pub here : kindAt q g ≡ Class b
+  pub inside : g < m
+  pub has : (d i : ℕ) → i < 8192 → (b ≡ d → i ≢ g) → hasTo n p d i ≡ hasTo m q d i
+  pub kind : (d i : ℕ) → i < m → i ≢ g → kindAt q i ≡ Class d → (i < n) × (kindAt p i ≡ Class d)
+  pub words : (i k : ℕ) → i < m → k < 8 → i ≢ g → getD (p .slots) (8 * i + k) 0 ≡ getD (q .slots) (8 * i + k) 0
 
--- a plan was performed, which left the slot bits ss
-abbrev pub notedPlan : List ℕ → List ℕ → Plan → List ℕ
-notedPlan ss l (Refuse r) = l
-notedPlan ss l (TakeSlot g b s) = notedSlot ss l g b
-notedPlan ss l (NewClass g b) = notedSlot ss l g b
-notedPlan ss l (NewLarge g k) = l
+-- the run of class b at page g of the pool q was looked at anew: marks of a pool that was the same but for this run are those of q
+abbrev pub Noted : Pool → ℕ → ℕ → List ℕ → List ℕ → List ℕ → List ℕ → Type 0
+Noted q b g rows opens rows′ opens′ = (n : ℕ) (p : Pool) (m : ℕ) → Marks n p rows opens → SameBut n p m q b g → Marks m q rows′ opens′
 
--- what started at a place was given back
-abbrev pub notedSpot : List ℕ → Spot → List ℕ
-notedSpot l (Nowhere r) = l
-notedSpot l (Run g k) = l
-notedSpot l (Slot g b s) = noted l b (min (getD l (3840 + b) 0) g) g true
+-- the row and the bytes of class b were looked at anew, at the one page whose run differs
+pub record Renewed (n : ℕ) (p : Pool) (m : ℕ) (q : Pool) (b : ℕ) (row opens row′ opens′ : List ℕ) : Type 0 where
+  pub page : ℕ
+  pub byte : ℕ
+  pub low : page < 8192
+  pub same : SameBut n p m q b page
+  pub which : Opens (q .slots) b page byte
+  pub mark : row′ ≡ marked row page (not (eqb byte 0))
+  pub put : opens′ ≡ set opens page byte
 
--- of the marks of class b, the first n words have lost those of the pages whose bit is 0; nothing else has changed
-pub record RowMasked (bits l l′ : List ℕ) (b n : ℕ) : Type 0 where
-  pub long : length l′ ≡ length l
-  pub here : (k : ℕ) → k < n → getD l′ (128 * b + k) 0 ≡ bitAnd (getD l (128 * b + k) 0) (getD bits k 0)
-  pub other : (j : ℕ) → (j < 128 * b) ⊎ (128 * b + n ≤ j) → getD l′ j 0 ≡ getD l j 0
+-- ---- where a row finds a slot
 
--- the marks of the first n classes have lost those of the pages of c chunks whose bit is 0; the numbers behind them are as they were
-pub record Masked (c : ℕ) (bits l l′ : List ℕ) (n : ℕ) : Type 0 where
-  pub long : length l′ ≡ length l
-  pub here : (b g : ℕ) → b < n → g < 512 * c → bitAt l′ (8192 * b + g) ≡ min (bitAt l (8192 * b + g)) (bitAt bits g)
-  pub other : (j : ℕ) → 128 * n ≤ j → getD l′ j 0 ≡ getD l j 0
+-- the row and the bytes of a class of a good pool; word j is the first that has a mark, and the top word `top` says so
+pub record Front (p : Pool) (row opens : List ℕ) (j top : ℕ) : Type 0 where
+  pub chunks : ℕ
+  pub class : ℕ
+  pub good : Good chunks p
+  pub cut : Cut class row
+  pub marks : Row (512 * chunks) p class row
+  pub wide : length opens ≡ 8192
+  pub byte : (g : ℕ) → g < 512 * chunks → kindAt p g ≡ Class class → Opens (p .slots) class g (getD opens g 0)
+  pub inside : j < 128
+  pub word : top ≡ getD row (topAt + j / 64) 0
+  pub lowest : Lowest 64 top 1 (j % 64)
+  pub some : 1 ≤ top
+  pub none : (i : ℕ) → i < j → getD row i 0 ≡ 0
 
--- the numbers of a plan are those of a pool with n words of slot bits
-abbrev pub PlanNear : ℕ → Plan → Type 0
-PlanNear n (Refuse r) = Unit {0}
-PlanNear n (TakeSlot g b s) = (g < 8192) × (b < 30) × (8 * g + 8 ≤ n)
-PlanNear n (NewClass g b) = (g < 8192) × (b < 30) × (8 * g + 8 ≤ n)
-PlanNear n (NewLarge g k) = Unit {0}
+-- ---- what a call finds
 
-abbrev pub SpotNear : Spot → Type 0
-SpotNear (Nowhere r) = Unit {0}
-SpotNear (Run g k) = Unit {0}
-SpotNear (Slot g b s) = (g < 8192) × (b < 30)
+-- the lowest free slot of class b is taken: 512 times its page and its number, where there is one; else 0
+unfoldable pub taking : ℕ → Pool → ℕ → Left ℕ Pool
+taking c p b =
+    let g = slotPage p b 0 (512 * c) in
+    let s = lowestFree (p .slots) b g in
+    cond (ltb g (512 * c)) (leaves (512 * g + s) (putSlot 1 p g s)) (leaves 0 p)
+
+-- the lowest free slot of the class in front was taken: the answer, the pool, and its row and bytes
+abbrev pub Took : {p : Pool} {row opens : List ℕ} {j top : ℕ} → Front p row opens j top → ℕ → Pool → List ℕ → List ℕ → Type 0
+Took {p} {row} {opens} f r q row′ opens′ =
+    (leaves r q ≡ taking (f .chunks) p (f .class)) × Renewed (512 * f .chunks) p (512 * f .chunks) q (f .class) row opens row′ opens′
+
+-- what starts at byte `off` of the run of class b at page g is given back
+unfoldable pub giving : Pool → ℕ → ℕ → ℕ → Left ℕ Pool
+giving p g b off = leaves (released (slotSpot (p .slots) g b off)) (giveBack p (slotSpot (p .slots) g b off))
+
+-- the row and the bytes of a class of a good pool, which has a run at page g; byte `off` lies in the pages of this run
+pub record Held (p : Pool) (row opens : List ℕ) (g off : ℕ) : Type 0 where
+  pub chunks : ℕ
+  pub class : ℕ
+  pub good : Good chunks p
+  pub inside : g < 512 * chunks
+  pub run : kindAt p g ≡ Class class
+  pub within : off < 4096 * pages class
+  pub cut : Cut class row
+  pub wide : length opens ≡ 8192
+  pub byte : Opens (p .slots) class g (getD opens g 0)
+
+-- a refusal leaves all as it was
+pub record Kept (p : Pool) (row opens : List ℕ) (q : Pool) (row′ opens′ : List ℕ) : Type 0 where
+  pub same : q ≡ p
+  pub numbers : row′ ≡ row
+  pub bytes : opens′ ≡ opens
+
+-- what starts at this byte was given back: the answer, the pool, and its row and bytes
+abbrev pub Gave : {p : Pool} {row opens : List ℕ} {g off : ℕ} → Held p row opens g off → ℕ → Pool → List ℕ → List ℕ → Type 0
+Gave {p} {row} {opens} {g} {off} h r q row′ opens′ =
+    (leaves r q ≡ giving p g (h .class) off)
+    × (Kept p row opens q row′ opens′ ⊎ Renewed (512 * h .chunks) p (512 * h .chunks) q (h .class) row opens row′ opens′)

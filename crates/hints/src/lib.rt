@@ -1,349 +1,329 @@
-// Reserve, release and resize for a caller that owns sound records and makes many calls: a row of hints is kept beside the records, so that a
-// free slot is found without a walk over the pages, and a class's numbers without its constants.
+// Marks beside sound records, for a caller that makes many calls: where the free slots of each class are, so that the lowest one is found in
+// a fixed number of steps, however many chunks there are. A mark says that a run has a free slot, a top bit that a word has a mark, and a
+// byte for each page which slot words of the run there have one. The class's numbers stand beside its marks.
+use refusals::FREE_SLOT;
 use refusals::NO_BLOCK;
 ghost use mathlib.Core.Path.{_≡_};
-ghost use Prim.Native.Nat.{_+_, _*_, _<_, _≤_};
+ghost use mathlib.Core.Bool.{true};
+ghost use Prim.Native.Nat.{_+_, _-_, _*_, _<_, _≤_, min};
 ghost use lib.ListN.{length};
-ghost use Rattle.classes.specs.Classes.{size};
+ghost use Rattle.bitrow.specs.Mask.{maskOf};
+ghost use Rattle.classes.specs.Classes.{pages};
 ghost use Rattle.records.specs.declared.Kind.the-variants.{Class};
-ghost use Rattle.records.specs.Kinds.{slotsOf};
+ghost use Rattle.records.specs.Pool.{kindAt};
 ghost use Rattle.records.specs.Lent.{lent, before, after};
 ghost use Rattle.records.specs.Calls.{admitOf, leaves};
-ghost use Rattle.reserve.specs.Reserve.{slotPage, planSlot, plan, serve};
-ghost use Rattle.reserve.specs.Plans.{PlanSize};
-ghost use Rattle.release.specs.Release.{spot, give};
-ghost use Rattle.resize.specs.Resize.{moving, resize};
-ghost use Rattle.hints.specs.Hints.{Cuts, Hints, Cleared, Fresh, RowMasked, Masked, carried, IsPlan, noted, notedSlot, notedPlan, notedSpot, PlanNear, SpotNear};
+ghost use Rattle.hints.specs.Hints.{Cuts, Marks, Cleared, Masked, Written, Blank, Asked, Noted, Front, Took, marked, taking, giving, Held, Gave};
 
-// All numbers get 0.
-fn clear(hints: &mut [u64])
-    requires { ⌜ length (now hints) ≡ 3930 ⌝ }
-    ensures { λ _. ⌜ Cleared (now (hints .exit)) 3930 ⌝ }
+// The numbers of a row: words of marks from 0 on, tops, masks of the slot words, the class's numbers.
+pub const TOP: usize = 128;
+
+pub const MASK: usize = 130;
+
+pub const SIZE: usize = 138;
+
+pub const COUNT: usize = 139;
+
+pub const SHARE: usize = 140;
+
+pub const ROW: usize = 144;
+
+pub const ROWS: usize = 4320;
+
+// A byte for each page.
+pub const OPENS: usize = 8192;
+
+// ---- one row
+
+// The run at page g has a free slot.
+fn set_mark(row: &mut [u64], g: usize)
+    requires { ⌜ (length (now row) ≡ 144) × (g < 8192) ⌝ }
+    ensures { λ _. ⌜ now (row .exit) ≡ marked (now (row .entry)) g true ⌝ }
 {
-    let mut i = 0;
-    while i < 3930 {
-        hints[i] = 0;
-        i += 1;
-    }
+    let j = g / 64;
+    row[j] = row[j] | (1 << (g % 64));
+    let t = TOP + j / 64;
+    row[t] = row[t] | (1 << (j % 64));
 }
 
-// The row beside fresh records: no run has a free slot.
-pub fn fresh_hints(hints: &mut [u64])
-    requires { ⌜ length (now hints) ≡ 3930 ⌝ }
-    ensures { λ _. ⌜ Fresh (now (hints .exit)) ⌝ }
+// Takes the lowest free slot of a class: word j of its marks is the first that has one, and `top` the top word that says so. 512 times the
+// slot's page, and its number.
+fn take_at(
+    bits: &[u64],
+    words: &mut [u32],
+    slots: &mut [u64],
+    row: &mut [u64],
+    opens: &mut [u8],
+    j: usize,
+    top: u64,
+) -> usize
+    requires { ⌜ Front (lent bits words slots) (now row) (now opens) j top ⌝ }
+    ensures { λ r. ⌜ ((f : Front (before bits words slots) (now (row .entry)) (now (opens .entry)) j top)
+        → Took f r (after bits words slots) (now (row .exit)) (now (opens .exit))) ⌝ }
 {
-    clear(hints);
-    let rows = classes::class_rows();
-    let mut b = 0;
-    while b < 30 {
-        let row = rows[b];
-        hints[3870 + b] = widths::wide64(widths::wide16(row.size));
-        hints[3900 + b] = widths::wide64(widths::wide16(row.slots));
-        b += 1;
-    }
+    let m = row[j];
+    let g = 64 * j + bitrow::first_one(m) as usize;
+    let o = widths::wide64(widths::wide8(opens[g]));
+    let k = bitrow::first_one(o) as usize;
+    let i = 8 * g + k;
+    let w = slots[i];
+    let v = blocks::fill_word(bits, words, slots, i);
+    let p = bitrow::without_lowest(o, v == row[MASK + k]);
+    opens[g] = p as u8;
+    let l = bitrow::without_lowest(m, p == 0);
+    row[j] = l;
+    row[TOP + j / 64] = bitrow::without_lowest(top, l == 0);
+    64 * i + bitrow::first_zero(w) as usize
 }
 
-// The first page at which a run of class b with a free slot starts; behind the last page where there is none.
-fn marked_page(c: u64, bits: &[u64], words: &[u32], slots: &[u64], hints: &[u64], b: usize) -> usize
-    requires hinted { ⌜ Hints c (lent bits words slots) (now hints) ⌝ }
-    requires few { ⌜ c ≤ 16 ⌝ }
-    requires class { ⌜ b < 30 ⌝ }
-    ensures { λ r. ⌜ r ≡ slotPage (before bits words slots) b 0 (512 * c) ⌝ }
-{
-    let row = 8192 * b;
-    let low = hints[3840 + b] as usize;
-    bitrow::next_bit(hints, row + low, row + 512 * (c as usize), true) - row
-}
-
-// Page g of class b gets the mark v, and the class its lowest page.
-fn note(hints: &mut [u64], b: usize, g: usize, low: usize, v: bool)
-    requires long { ⌜ length (now hints) ≡ 3930 ⌝ }
-    requires class { ⌜ b < 30 ⌝ }
-    requires low { ⌜ g < 8192 ⌝ }
-    ensures { λ _. ⌜ now (hints .exit) ≡ noted (now (hints .entry)) b low g v ⌝ }
-{
-    hints[3840 + b] = widths::wide64(low);
-    bitrow::put_bit(hints, 8192 * b + g, v);
-}
-
-// A slot of the run of class b at page g was taken; answers its size.
-fn note_slot(slots: &[u64], hints: &mut [u64], g: usize, b: usize) -> u64
-    requires cuts { ⌜ Cuts (now hints) ⌝ }
-    requires low { ⌜ g < 8192 ⌝ }
-    requires class { ⌜ b < 30 ⌝ }
-    requires long { ⌜ 8 * g + 8 ≤ length (now slots) ⌝ }
-    ensures noted { λ r. ⌜ now (hints .exit) ≡ notedSlot (now (slots .entry)) (now (hints .entry)) g b ⌝ }
-    ensures size { λ r. ⌜ r ≡ size b ⌝ }
-{
-    let bytes = hints[3870 + b];
-    let n = hints[3900 + b] as usize;
-    let v = reserve::lowest_free(slots, g, b, n) < n;
-    note(hints, b, g, g, v);
-    bytes
-}
-
-// A plan was performed; answers the size of its slot, 0 where it is for none.
-fn note_plan(slots: &[u64], hints: &mut [u64], x: reserve::Plan) -> u64
-    requires { ⌜ (Cuts (now hints)) × (PlanNear (length (now slots)) x) ⌝ }
-    ensures noted { λ r. ⌜ now (hints .exit) ≡ notedPlan (now (slots .entry)) (now (hints .entry)) x ⌝ }
-    ensures size { λ r. ⌜ PlanSize x r ⌝ }
-{
-    match x {
-        reserve::Plan::Refuse(r) => {
-            return 0;
-        }
-        reserve::Plan::TakeSlot(g, b, s) => {
-            return note_slot(slots, hints, g, b);
-        }
-        reserve::Plan::NewClass(g, b) => {
-            return note_slot(slots, hints, g, b);
-        }
-        reserve::Plan::NewLarge(g, k) => {
-            return 0;
-        }
-    }
-}
-
-// Takes the lowest free slot of the run of class b at page g, the first that has one; the run has n slots.
-fn take_slot(
+// Takes the lowest free slot of class b; 0 where there is none.
+pub fn take(
     c: u64,
     bits: &[u64],
     words: &mut [u32],
     slots: &mut [u64],
-    hints: &mut [u64],
+    rows: &mut [u64],
+    opens: &mut [u8],
+    b: usize,
+) -> usize
+    requires sound { ⌜ admitOf c (lent bits words slots) ≡ 0 ⌝ }
+    requires marks { ⌜ Marks (512 * c) (lent bits words slots) (now rows) (now opens) ⌝ }
+    requires class { ⌜ b < 30 ⌝ }
+    ensures taken { λ r. ⌜ leaves r (after bits words slots) ≡ taking c (before bits words slots) b ⌝ }
+    ensures marks { λ r. ⌜ Marks (512 * c) (after bits words slots) (now (rows .exit)) (now (opens .exit)) ⌝ }
+{
+    let from = ROW * b;
+    let to = from + ROW;
+    let low = rows[from + TOP];
+    if low != 0 {
+        let j = bitrow::first_one(low) as usize;
+        return take_at(bits, words, slots, &mut rows[from..to], opens, j, low);
+    }
+    let high = rows[from + TOP + 1];
+    if high != 0 {
+        let j = 64 + bitrow::first_one(high) as usize;
+        return take_at(bits, words, slots, &mut rows[from..to], opens, j, high);
+    }
+    0
+}
+
+// The slot at byte `off` of the run at page g, of the class whose row is lent, is given back: 0, or the refusal's number. Behind the last
+// slot all bits are 0, so that the count is asked for only there.
+fn give_at(
+    bits: &[u64],
+    words: &mut [u32],
+    slots: &mut [u64],
+    row: &mut [u64],
+    opens: &mut [u8],
+    g: usize,
+    off: usize,
+) -> u64
+    requires { ⌜ Held (lent bits words slots) (now row) (now opens) g off ⌝ }
+    ensures { λ r. ⌜ ((h : Held (before bits words slots) (now (row .entry)) (now (opens .entry)) g off)
+        → Gave h r (after bits words slots) (now (row .exit)) (now (opens .exit))) ⌝ }
+{
+    let s = (off * (row[SHARE] as usize)) / 4294967296;
+    if s * (row[SIZE] as usize) != off {
+        return NO_BLOCK;
+    }
+    let k = s / 64;
+    let i = 8 * g + k;
+    let bit = 1 << (s % 64);
+    let w = slots[i];
+    if (w & bit) == 0 {
+        if (row[COUNT] as usize) <= s {
+            return NO_BLOCK;
+        }
+        return FREE_SLOT;
+    }
+    blocks::free_bit(bits, words, slots, i, bit);
+    opens[g] = opens[g] | (1 << k);
+    set_mark(row, g);
+    0
+}
+
+// What starts at byte `off` of the run of class b at page g is given back.
+pub fn give(
+    c: u64,
+    bits: &[u64],
+    words: &mut [u32],
+    slots: &mut [u64],
+    rows: &mut [u64],
+    opens: &mut [u8],
     g: usize,
     b: usize,
-    n: usize,
-) -> reserve::Reserved
+    off: usize,
+) -> u64
     requires sound { ⌜ admitOf c (lent bits words slots) ≡ 0 ⌝ }
-    requires hinted { ⌜ Hints c (lent bits words slots) (now hints) ⌝ }
-    requires class { ⌜ b < 30 ⌝ }
-    requires count { ⌜ n ≡ slotsOf (Class b) ⌝ }
-    requires first { ⌜ g ≡ slotPage (lent bits words slots) b 0 (512 * c) ⌝ }
-    requires inside { ⌜ g < 512 * c ⌝ }
-    ensures given { λ r. ⌜ leaves r (after bits words slots) ≡ carried (before bits words slots) (planSlot c (before bits words slots) b) ⌝ }
-    ensures hinted { λ r. ⌜ Hints c (after bits words slots) (now (hints .exit)) ⌝ }
+    requires marks { ⌜ Marks (512 * c) (lent bits words slots) (now rows) (now opens) ⌝ }
+    requires run { ⌜ kindAt (lent bits words slots) g ≡ Class b ⌝ }
+    requires inside { ⌜ (g < 512 * c) × (off < 4096 * pages b) ⌝ }
+    ensures given { λ r. ⌜ leaves r (after bits words slots) ≡ giving (before bits words slots) g b off ⌝ }
+    ensures marks { λ r. ⌜ Marks (512 * c) (after bits words slots) (now (rows .exit)) (now (opens .exit)) ⌝ }
 {
-    let s = reserve::lowest_free(slots, g, b, n);
-    blocks::put_slot(bits, words, slots, g, s, true);
-    let end = 512 * g + n;
-    let more = bitrow::next_bit(slots, 512 * g + s, end, false) < end;
-    let bytes = hints[3870 + b];
-    note(hints, b, g, g, more);
-    reserve::slot_given(g, b, s, bytes)
+    let from = ROW * b;
+    let to = from + ROW;
+    give_at(bits, words, slots, &mut rows[from..to], opens, g, off)
 }
 
-// Performs a plan.
-fn carry_out(
-    c: u64,
-    bits: &mut [u64],
-    words: &mut [u32],
-    slots: &mut [u64],
-    hints: &mut [u64],
-    x: reserve::Plan,
-) -> reserve::Reserved
-    requires sound { ⌜ admitOf c (lent bits words slots) ≡ 0 ⌝ }
-    requires hinted { ⌜ Hints c (lent bits words slots) (now hints) ⌝ }
-    requires planned { ⌜ IsPlan c (lent bits words slots) x ⌝ }
-    ensures given { λ r. ⌜ leaves r (after bits words slots) ≡ carried (before bits words slots) x ⌝ }
-    ensures hinted { λ r. ⌜ Hints c (after bits words slots) (now (hints .exit)) ⌝ }
+// The run at page g has a free slot, or none.
+fn put_mark(row: &mut [u64], g: usize, v: bool)
+    requires { ⌜ (length (now row) ≡ 144) × (g < 8192) ⌝ }
+    ensures { λ _. ⌜ now (row .exit) ≡ marked (now (row .entry)) g v ⌝ }
 {
-    reserve::perform_plan(c, bits, words, slots, x);
-    let bytes = note_plan(slots, hints, x);
-    reserve::answer_of(x, bytes)
+    bitrow::put_bit(row, g, v);
+    let w = row[g / 64];
+    bitrow::put_bit(row, 8192 + g / 64, w != 0);
 }
 
-// The marks of class b go where the page bit is 0, 64 pages at a time.
-fn mask_row(c: u64, bits: &[u64], hints: &mut [u64], b: usize)
-    requires few { ⌜ c ≤ 16 ⌝ }
-    requires bit { ⌜ length (now bits) ≡ 8 * c ⌝ }
-    requires long { ⌜ length (now hints) ≡ 3930 ⌝ }
-    requires class { ⌜ b < 30 ⌝ }
-    ensures { λ _. ⌜ RowMasked (now (bits .entry)) (now (hints .entry)) (now (hints .exit)) b (8 * c) ⌝ }
+// Which slot words of the run at page g, of the class whose row is lent, have a free slot, as a byte.
+fn open_words(slots: &[u64], row: &[u64], g: usize) -> u64
+    requires long { ⌜ 8 * g + 8 ≤ length (now slots) ⌝ }
+    requires row { ⌜ length (now row) ≡ 144 ⌝ }
+    requires low { ⌜ g < 8192 ⌝ }
+    ensures { λ r. ⌜ Asked (now (slots .entry)) (now (row .entry)) g 8 r ⌝ }
 {
-    let n = 8 * (c as usize);
+    let mut o: u64 = 0;
     let mut k = 0;
-    while k < n {
-        let w = hints[128 * b + k];
-        hints[128 * b + k] = w & bits[k];
+    while k < 8 {
+        if slots[8 * g + k] != row[MASK + k] {
+            o = o | (1 << k);
+        }
         k += 1;
     }
+    o
 }
 
-// The runs that were swept lose their marks; one that stands has the bit of its first page.
-fn mask_marks(c: u64, bits: &[u64], hints: &mut [u64])
-    requires few { ⌜ c ≤ 16 ⌝ }
-    requires bit { ⌜ length (now bits) ≡ 8 * c ⌝ }
-    requires long { ⌜ length (now hints) ≡ 3930 ⌝ }
-    ensures { λ _. ⌜ Masked c (now (bits .entry)) (now (hints .entry)) (now (hints .exit)) 30 ⌝ }
-{
-    let mut b = 0;
-    while b < 30 {
-        mask_row(c, bits, hints, b);
-        b += 1;
-    }
-}
-
-// Performs x, the plan for n bytes, behind a sweep where that is needed and helps.
-fn carry_ready(
-    c: u64,
-    bits: &mut [u64],
-    words: &mut [u32],
-    slots: &mut [u64],
-    n: u64,
-    hints: &mut [u64],
-    x: reserve::Plan,
-) -> reserve::Reserved
-    requires sound { ⌜ admitOf c (lent bits words slots) ≡ 0 ⌝ }
-    requires hinted { ⌜ Hints c (lent bits words slots) (now hints) ⌝ }
-    requires plan { ⌜ x ≡ plan c (lent bits words slots) n ⌝ }
-    ensures given { λ r. ⌜ leaves r (after bits words slots) ≡ serve c (before bits words slots) n ⌝ }
-    ensures hinted { λ r. ⌜ Hints c (after bits words slots) (now (hints .exit)) ⌝ }
-{
-    if !reserve::is_full(x) {
-        return carry_out(c, bits, words, slots, hints, x);
-    }
-    let y = reserve::make_room(c, bits, words, slots, n, x);
-    mask_marks(c, bits, hints);
-    carry_out(c, bits, words, slots, hints, y)
-}
-
-// The work of a reserve, with hints.
-pub fn reserve_hinted(
-    c: u64,
-    bits: &mut [u64],
-    words: &mut [u32],
-    slots: &mut [u64],
-    n: u64,
-    hints: &mut [u64],
-) -> reserve::Reserved
-    requires { ⌜ (admitOf c (lent bits words slots) ≡ 0) × (Hints c (lent bits words slots) (now hints)) ⌝ }
-    ensures given { λ r. ⌜ leaves r (after bits words slots) ≡ serve c (before bits words slots) n ⌝ }
-    ensures hinted { λ r. ⌜ Hints c (after bits words slots) (now (hints .exit)) ⌝ }
-{
-    if n <= 3072 {
-        let b = classes::class_of(n as usize);
-        let k = hints[3900 + b] as usize;
-        let g = marked_page(c, bits, words, slots, hints, b);
-        if g < 512 * (c as usize) {
-            return take_slot(c, bits, words, slots, hints, g, b, k);
-        }
-        let x = reserve::plan_slot(c, bits, words, slots, b, k, g);
-        return carry_ready(c, bits, words, slots, n, hints, x);
-    }
-    let x = reserve::plan_large(c, bits, n);
-    carry_ready(c, bits, words, slots, n, hints, x)
-}
-
-// What starts at the place q.
-fn spot_hinted(
+// The run of class b at page g is looked at anew.
+pub fn note(
     c: u64,
     bits: &[u64],
     words: &[u32],
     slots: &[u64],
-    q: u64,
-    hints: &[u64],
-) -> release::Spot
-    requires { ⌜ (admitOf c (lent bits words slots) ≡ 0) × (Cuts (now hints)) ⌝ }
-    ensures { λ r. ⌜ r ≡ spot c (before bits words slots) q ⌝ }
+    rows: &mut [u64],
+    opens: &mut [u8],
+    g: usize,
+    b: usize,
+)
+    requires sound { ⌜ admitOf c (lent bits words slots) ≡ 0 ⌝ }
+    requires cuts { ⌜ (Cuts (now rows)) × (length (now opens) ≡ 8192) ⌝ }
+    requires run { ⌜ kindAt (lent bits words slots) g ≡ Class b ⌝ }
+    requires inside { ⌜ g < 512 * c ⌝ }
+    ensures { λ _. ⌜ Noted (before bits words slots) b g (now (rows .entry)) (now (opens .entry)) (now (rows .exit)) (now (opens .exit)) ⌝ }
 {
-    match release::area_at(c, bits, words, slots, q) {
-        release::Area::Bare => {
-            return release::Spot::Nowhere(NO_BLOCK);
+    let from = ROW * b;
+    let to = from + ROW;
+    let o = open_words(slots, &rows[from..to], g);
+    opens[g] = o as u8;
+    put_mark(&mut rows[from..to], g, o != 0);
+}
+
+// The marks of the pages up to g, page g among them.
+fn note_page(
+    c: u64,
+    bits: &[u64],
+    words: &[u32],
+    slots: &[u64],
+    rows: &mut [u64],
+    opens: &mut [u8],
+    g: usize,
+)
+    requires sound { ⌜ admitOf c (lent bits words slots) ≡ 0 ⌝ }
+    requires marks { ⌜ Marks g (lent bits words slots) (now rows) (now opens) ⌝ }
+    requires inside { ⌜ g < 512 * c ⌝ }
+    ensures { λ _. ⌜ Marks (g + 1) (before bits words slots) (now (rows .exit)) (now (opens .exit)) ⌝ }
+{
+    match records::kind_at(c, bits, words, slots, g) {
+        records::Kind::Class(b) => {
+            note(c, bits, words, slots, rows, opens, g, b);
         }
-        release::Area::Large(g, k) => {
-            return release::Spot::Run(g, k);
-        }
-        release::Area::Class(g, b) => {
-            let bytes = hints[3870 + b] as usize;
-            let count = hints[3900 + b] as usize;
-            return release::slot_spot(slots, g, b, (q as usize) - 4096 * g, bytes, count);
+        _ => {
+            return;
         }
     }
 }
 
-// What starts at a place is given back.
-fn note_spot(hints: &mut [u64], x: release::Spot)
-    requires { ⌜ (length (now hints) ≡ 3930) × (SpotNear x) ⌝ }
-    ensures { λ _. ⌜ now (hints .exit) ≡ notedSpot (now (hints .entry)) x ⌝ }
+// The marks of a pool, whatever the rows held.
+pub fn build(c: u64, bits: &[u64], words: &[u32], slots: &[u64], rows: &mut [u64], opens: &mut [u8])
+    requires sound { ⌜ admitOf c (lent bits words slots) ≡ 0 ⌝ }
+    requires long { ⌜ length (now rows) ≡ 4320 ⌝ }
+    requires wide { ⌜ length (now opens) ≡ 8192 ⌝ }
+    ensures { λ _. ⌜ Marks (512 * c) (before bits words slots) (now (rows .exit)) (now (opens .exit)) ⌝ }
 {
-    match x {
-        release::Spot::Nowhere(r) => {
-            return;
-        }
-        release::Spot::Run(g, k) => {
-            return;
-        }
-        release::Spot::Slot(g, b, s) => {
-            let low = bitrow::least(hints[3840 + b] as usize, g);
-            note(hints, b, g, low, true);
-            return;
-        }
+    cut_rows(rows);
+    let n = 512 * (c as usize);
+    let mut g = 0;
+    while g < n {
+        note_page(c, bits, words, slots, rows, opens, g);
+        g += 1;
     }
 }
 
-// The work of a release, with hints.
-pub fn release_hinted(
-    c: u64,
-    bits: &mut [u64],
-    words: &mut [u32],
-    slots: &mut [u64],
-    q: u64,
-    hints: &mut [u64],
-) -> u64
-    requires { ⌜ (admitOf c (lent bits words slots) ≡ 0) × (Hints c (lent bits words slots) (now hints)) ⌝ }
-    ensures given { λ r. ⌜ leaves r (after bits words slots) ≡ give c (before bits words slots) q ⌝ }
-    ensures hinted { λ r. ⌜ Hints c (after bits words slots) (now (hints .exit)) ⌝ }
-{
-    let x = spot_hinted(c, bits, words, slots, q, hints);
-    note_spot(hints, x);
-    release::give_back(c, bits, words, slots, x)
-}
+// ---- how the rows start
 
-// Moves the block of z bytes at the place q, for n bytes, with hints.
-fn move_hinted(
-    c: u64,
-    bits: &mut [u64],
-    words: &mut [u32],
-    slots: &mut [u64],
-    q: u64,
-    n: u64,
-    z: u64,
-    hints: &mut [u64],
-) -> resize::Resized
-    requires { ⌜ (admitOf c (lent bits words slots) ≡ 0) × (Hints c (lent bits words slots) (now hints)) ⌝ }
-    ensures given { λ r. ⌜ leaves r (after bits words slots) ≡ moving c (before bits words slots) q z n ⌝ }
-    ensures hinted { λ r. ⌜ Hints c (after bits words slots) (now (hints .exit)) ⌝ }
+// All numbers get 0.
+fn clear(rows: &mut [u64])
+    requires { ⌜ length (now rows) ≡ 4320 ⌝ }
+    ensures { λ _. ⌜ Cleared (now (rows .exit)) 4320 ⌝ }
 {
-    let r = reserve_hinted(c, bits, words, slots, n, hints);
-    if r.refusal != 0 {
-        return resize::refused(r.refusal);
+    let mut i = 0;
+    while i < ROWS {
+        rows[i] = 0;
+        i += 1;
     }
-    release_hinted(c, bits, words, slots, q, hints);
-    resize::moved(r, z, n)
 }
 
-// The work of a resize, with hints.
-pub fn resize_hinted(
-    c: u64,
-    bits: &mut [u64],
-    words: &mut [u32],
-    slots: &mut [u64],
-    q: u64,
-    n: u64,
-    hints: &mut [u64],
-) -> resize::Resized
-    requires { ⌜ (admitOf c (lent bits words slots) ≡ 0) × (Hints c (lent bits words slots) (now hints)) ⌝ }
-    ensures given { λ r. ⌜ leaves r (after bits words slots) ≡ resize c (before bits words slots) q n ⌝ }
-    ensures hinted { λ r. ⌜ Hints c (after bits words slots) (now (hints .exit)) ⌝ }
+// The mask of the slots that word k of a run of n slots has.
+fn mask_of(n: usize, k: usize) -> u64
+    requires { ⌜ (n ≤ 512) × (k < 8) ⌝ }
+    ensures { λ r. ⌜ r ≡ maskOf 0 (min 64 (n - 64 * k)) ⌝ }
 {
-    let x = spot_hinted(c, bits, words, slots, q, hints);
-    match resize::settle(c, bits, words, slots, q, n, x) {
-        resize::Settled::Over(r) => {
-            return r;
-        }
-        resize::Settled::Moving(z) => {
-            return move_hinted(c, bits, words, slots, q, n, z, hints);
-        }
+    if 64 * k + 64 <= n {
+        return u64::MAX;
+    }
+    if n <= 64 * k {
+        return 0;
+    }
+    u64::MAX >> (64 * k + 64 - n)
+}
+
+// The masks of the eight slot words of a run of n slots.
+fn cut_masks(row: &mut [u64], n: usize)
+    requires { ⌜ (length (now row) ≡ 144) × (n ≤ 512) ⌝ }
+    ensures { λ _. ⌜ Masked (now (row .entry)) (now (row .exit)) n 8 ⌝ }
+{
+    let mut k = 0;
+    while k < 8 {
+        row[MASK + k] = mask_of(n, k);
+        k += 1;
+    }
+}
+
+// The numbers of class b.
+fn cut_row(row: &mut [u64], b: usize)
+    requires { ⌜ (length (now row) ≡ 144) × (b < 30) ⌝ }
+    ensures { λ _. ⌜ Written b (now (row .entry)) (now (row .exit)) ⌝ }
+{
+    let cut = classes::class_row(b);
+    let n = widths::wide16(cut.slots);
+    let size = widths::wide64(widths::wide16(cut.size));
+    cut_masks(row, n);
+    row[SIZE] = size;
+    row[COUNT] = widths::wide64(n);
+    row[SHARE] = 4294967295 / size + 1;
+}
+
+// The numbers of all classes, and no mark.
+fn cut_rows(rows: &mut [u64])
+    requires { ⌜ length (now rows) ≡ 4320 ⌝ }
+    ensures { λ _. ⌜ Blank (now (rows .exit)) ⌝ }
+{
+    clear(rows);
+    let mut b = 0;
+    while b < 30 {
+        let from = ROW * b;
+        let to = from + ROW;
+        cut_row(&mut rows[from..to], b);
+        b += 1;
     }
 }

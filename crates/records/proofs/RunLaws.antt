@@ -1,18 +1,19 @@
 -- The runs of sound records lie apart, inside their chunks and off page 0. Assumes nothing.
-use mathlib.Core.Path.{_≡_, refl, sym, ap, _∙_, subst}
+use mathlib.Core.Path.{_≡_, refl, sym, ap, _∙_, subst, subst⁻¹}
 use mathlib.Core.Logic.{_≢_, _⊎_, ⊎-elim, by-cases}
-use mathlib.Core.Bool.{Bool, true, false}
+use mathlib.Core.Bool.{Bool, true, false, not, false≢true}
 use mathlib.Core.Option.{some, Option·none-ne-some, Option·some-injective}
 use mathlib.Core.List.{List, []}
 use Prim.Native.Nat.{ℕ, suc, _+_, _-_, _*_, _/_, _%_, _^_, _≤_, _<_}
 use native.Mathlib.Decide.{ℕ-discrete, decLt, decLe}
 use native.Mathlib.Omega.{arith}
 use lib.ListN.{length, getD}
-use borrow.Author.Tests.{eq-eqb}
+use lib.Dec.{leb}
+use borrow.Author.Tests.{eq-eqb, ne-eqb, eqb-true, not-false, le-leb, lt-leb}
 use Rattle.bitrow.specs.Row.{isSet}
 use Rattle.records.specs.declared.Kind.{Kind}
 use Rattle.records.specs.declared.Kind.the-variants.{Edge, Free, Damaged, Large, Class, Inner}
-use Rattle.records.specs.Kinds.{innerWord, kindOf, behind, spanOf, ClassPart}
+use Rattle.records.specs.Kinds.{innerWord, kindOf, behind, spanOf, inClass, ClassPart}
 use Rattle.records.specs.Pool.{Pool, isEdge, kindAt}
 use Rattle.records.specs.Sound.{step, sound}
 use Rattle.records.specs.Runs.{InRun, LiesBy, Lies, Runs}
@@ -238,6 +239,46 @@ pub lies-back : (c : ℕ) (p : Pool) → sound c p ≡ true → (g : ℕ) → g 
 lies-back c p s g l k b h e f =
     let (a, q, r) = sound-runs c p s .back g k b l (omega arith) (omega arith) in (a, record { is = sym q; by = r })
 
+-- a page inside a run whose word is not 0 has a high one
+high-inner : (p : Pool) (g v : ℕ) → kindAt p g ≡ Inner v → v ≢ 0 → 0xC0000000 ≤ getD (p .words) g 0
+high-inner p g v x n =
+    by-cases (decLe 0xC0000000 (getD (p .words) g 0)) (λ a. a) (λ a. absurd (n (subst Nought x (page-nought p g (omega arith)))))
+
+-- a page of a class run is told by the run's first page
+pub lies-in : (c : ℕ) (p : Pool) → sound c p ≡ true → (g : ℕ) → g < 512 * c → inClass (kindAt p g) ≡ true → (w : ℕ) → w ≡ getD (p .words) g 0
+    → w < 2 ^ 32 → (k b : ℕ) → k ≡ w / 65536 % 16384 → b ≡ w % 65536 → (k ≤ g) × Lies p g (g - k) (Class b)
+lies-in c p s g l t w e m k b f h = go (kindAt p g) refl t
+  where
+    go : (j : Kind) → kindAt p g ≡ j → inClass j ≡ true → (k ≤ g) × Lies p g (g - k) (Class b)
+    go Edge x u = absurd (false≢true u)
+    go Free x u = absurd (false≢true u)
+    go Damaged x u = absurd (false≢true u)
+    go (Large n) x u = absurd (false≢true u)
+    go (Class d) x u =
+        let z = page-word p g x in let n = class-at-low p g d x in
+        let same : b ≡ d = omega arith in
+        let top : w / 65536 ≡ 32768 = omega arith in
+        let nought : k ≡ 0 = f ∙ ap (λ (x : ℕ). x % 16384) top in
+        let here : g - k ≡ g = omega arith in (
+          omega arith,
+          subst⁻¹ (λ (f : ℕ). Lies p g f (Class b)) here (subst⁻¹ (λ (i : ℕ). Lies p g g (Class i)) same (lies-self p g (omega arith) (sym x))),
+        )
+    go (Inner v) x u =
+        let high = high-inner p g v x (λ n. absurd (false≢true (sym (ap not (eq-eqb v 0 n)) ∙ u))) in
+        lies-back c p s g l k b high (omega arith) (omega arith)
+
+-- any other page by itself
+pub lies-out : (p : Pool) (g : ℕ) {k : Kind} → inClass (kindAt p g) ≡ false → k ≡ kindAt p g → Lies p g g k
+lies-out p g {k} t e = record { is = e; by = go k e (ap inClass e ∙ t) }
+  where
+    go : (j : Kind) → j ≡ kindAt p g → inClass j ≡ false → LiesBy p g g j
+    go Edge x u = refl
+    go Free x u = refl
+    go Damaged x u = refl
+    go (Large n) x u = refl
+    go (Class b) x u = absurd (false≢true (sym u))
+    go (Inner w) x u = (refl, eqb-true w 0 (not-false _ u))
+
 -- in the arm of a match: the kind that was told is this one
 pub lies-as : {p : Pool} {g f : ℕ} {j k : Kind} → j ≡ k → Lies p g f j → Lies p g f k
 lies-as {p} {g} {f} e r = subst (Lies p g f) e r
@@ -257,7 +298,20 @@ part-is c p s g l w e m = go (kindAt p g) refl
     go (Inner v) x =
         let z = page-word p g x in
         by-cases (ℕ-discrete v 0) (λ n. (let r : w / 0x40000000 ≡ 0 = omega arith in r) ∙ sym (cond-eq v 0 0 3 n))
-        (λ n.
-        let high : 0xC0000000 ≤ getD (p .words) g 0 =
-        by-cases (decLe 0xC0000000 (getD (p .words) g 0)) (λ a. a) (λ a. absurd (n (subst Nought x (page-nought p g (omega arith))))) in
-        (let r : w / 0x40000000 ≡ 3 = omega arith in r) ∙ sym (cond-ne v 0 0 3 n))
+        (λ n. let high = high-inner p g v x n in (let r : w / 0x40000000 ≡ 3 = omega arith in r) ∙ sym (cond-ne v 0 0 3 n))
+
+in-part : {r : ℕ} (k : Kind) → ClassPart r k → (w : ℕ) → r ≡ w / 0x40000000 → leb 0x80000000 w ≡ inClass k
+in-part Edge h w e = lt-leb 0x80000000 w (omega arith)
+in-part Free h w e = lt-leb 0x80000000 w (omega arith)
+in-part Damaged h w e = lt-leb 0x80000000 w (omega arith)
+in-part (Large k) h w e = lt-leb 0x80000000 w (omega arith)
+in-part (Class b) h w e = le-leb 0x80000000 w (omega arith)
+in-part (Inner v) h w e =
+    by-cases (ℕ-discrete v 0)
+    (λ n. let z = h ∙ cond-eq v 0 0 3 n in lt-leb 0x80000000 w (omega arith) ∙ sym (ap not (eq-eqb v 0 n)))
+    (λ n. let z = h ∙ cond-ne v 0 0 3 n in le-leb 0x80000000 w (omega arith) ∙ sym (ap not (ne-eqb v 0 n)))
+
+-- whether it is one at all
+pub in-class : (c : ℕ) (p : Pool) → sound c p ≡ true → (g : ℕ) → g < 512 * c → getD (p .words) g 0 < 2 ^ 32
+    → leb 0x80000000 (getD (p .words) g 0) ≡ inClass (kindAt p g)
+in-class c p s g l m = in-part (kindAt p g) (part-is c p s g l (getD (p .words) g 0) refl m) (getD (p .words) g 0) refl

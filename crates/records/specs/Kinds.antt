@@ -1,7 +1,7 @@
 -- Pages: what a page's word means, and how a run is written (RULES 3.2).
 -- Assumes nothing.
 use mathlib.Core.Path.{_≡_}
-use mathlib.Core.Bool.{Bool, true, false, cond}
+use mathlib.Core.Bool.{Bool, true, false, cond, not}
 use mathlib.Core.List.{List, [], _∷_}
 use Prim.Native.Nat.{ℕ, zero, suc, _+_, _-_, _*_, _<_}
 use lib.Dec.{eqb, ltb, leb}
@@ -82,6 +82,15 @@ isRunOf b k = begins k false (λ n. false) (λ d. eqb d b)
 -- the pages of the run that starts at a page; none where no run starts
 abbrev pub spanOf : Kind → ℕ
 spanOf k = begins k 0 suc (λ b. suc (behind b))
+
+-- the page lies in a class run
+abbrev pub inClass : Kind → Bool
+inClass Edge = false
+inClass Free = false
+inClass Damaged = false
+inClass (Large k) = false
+inClass (Class b) = true
+inClass (Inner w) = not (eqb w 0)
 
 -- the part of a class run that a page is, as a number: 2 its first page, 3 one behind it, less where it is none
 abbrev pub ClassPart : ℕ → Kind → Type 0

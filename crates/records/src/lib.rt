@@ -3,7 +3,9 @@ ghost use mathlib.Core.Path.{_≡_};
 ghost use Prim.Native.Nat.{_+_, _*_, _≤_, _<_};
 ghost use lib.Dec.{eqb};
 ghost use lib.ListN.{length};
-ghost use Rattle.records.specs.Kinds.{edgeWord, largeWord, classWord, innerWord, isRunOf, ClassPart};
+ghost use mathlib.Core.Bool.{true};
+ghost use Rattle.records.specs.declared.Kind.the-variants.{Class};
+ghost use Rattle.records.specs.Kinds.{edgeWord, largeWord, classWord, innerWord, isRunOf, inClass, ClassPart};
 ghost use Rattle.records.specs.Pool.{kindAt};
 ghost use Rattle.records.specs.Lent.{lent, before};
 ghost use Rattle.records.specs.Slots.{slotsClear};
@@ -25,6 +27,12 @@ pub enum Kind {
 pub struct Home {
     pub first: usize,
     pub kind: Kind,
+}
+
+// A class run: its first page, and its class.
+pub struct ClassRun {
+    pub first: usize,
+    pub class: usize,
 }
 
 // ---- how pages are written
@@ -97,19 +105,40 @@ pub fn is_run_of(c: u64, bits: &[u64], words: &[u32], slots: &[u64], g: usize, b
     words[g] == class_word(b)
 }
 
-// What page g lies in, on records that are sound. A page inside a class run has the way to the run's first page in its word; any other page
-// is told by itself.
+// Whether page g lies in a class run, on records that are sound.
+pub fn in_class(c: u64, bits: &[u64], words: &[u32], slots: &[u64], g: usize) -> bool
+    requires { ⌜ (admitOf c (lent bits words slots) ≡ 0) × (g < 512 * c) ⌝ }
+    ensures { λ r. ⌜ r ≡ inClass (kindAt (before bits words slots) g) ⌝ }
+{
+    0x80000000 <= words[g]
+}
+
+// The class run in which page g lies, on records that are sound: a page's word has the way to the run's first page, which is 0 there, and the
+// class.
+pub fn class_run(c: u64, bits: &[u64], words: &[u32], slots: &[u64], g: usize) -> ClassRun
+    requires sound { ⌜ admitOf c (lent bits words slots) ≡ 0 ⌝ }
+    requires inside { ⌜ g < 512 * c ⌝ }
+    requires class { ⌜ inClass (kindAt (lent bits words slots) g) ≡ true ⌝ }
+    ensures { λ r. ⌜ Lies (before bits words slots) g (r .first) (Class (r .class)) ⌝ }
+{
+    let w = words[g];
+    let k = ((w / 65536) % 16384) as usize;
+    ClassRun {
+        first: g - k,
+        class: (w % 65536) as usize,
+    }
+}
+
+// What page g lies in, on records that are sound. A page of a class run is told by the run's first page; any other page by itself.
 pub fn home_at(c: u64, bits: &[u64], words: &[u32], slots: &[u64], g: usize) -> Home
     requires { ⌜ (admitOf c (lent bits words slots) ≡ 0) × (g < 512 * c) ⌝ }
     ensures { λ r. ⌜ Lies (before bits words slots) g (r .first) (r .kind) ⌝ }
 {
-    let w = words[g];
-    if 0xC0000000 <= w {
-        let k = ((w - 0xC0000000) / 65536) as usize;
-        let b = (w % 65536) as usize;
+    if in_class(c, bits, words, slots, g) {
+        let r = class_run(c, bits, words, slots, g);
         return Home {
-            first: g - k,
-            kind: Kind::Class(b),
+            first: r.first,
+            kind: Kind::Class(r.class),
         };
     }
     Home {

@@ -193,18 +193,18 @@ module _ (c : ℕ) (p : Pool) (q n : ℕ) (x : Spot) {y : Change} (e : y ≡ cha
 
   pub settle-refused : {r : ℕ} → y ≡ Refuse r → {a : Resized} → a ≡ refused r → Leaves p (Over a)
   unfolding settled done
-  settle-refused m f = leaves-as m refl (over (ap (λ (b : Resized). leaves b p) f))
+  settle-refused m f = leaves-as m refl (over refl (ap (λ (b : Resized). leaves b p) f))
 
   pub settle-kept : {z : ℕ} → y ≡ Stay z → {a : Resized} → a ≡ kept q z → Leaves p (Over a)
   unfolding settled done
-  settle-kept m f = leaves-as m refl (over (ap (λ (b : Resized). leaves b p) f))
+  settle-kept m f = leaves-as m refl (over refl (ap (λ (b : Resized). leaves b p) f))
 
   pub settle-recut : {g k j : ℕ} → y ≡ Recut g k j → {w : Pool} → w ≡ recut p g k j → {s : ℕ} → s ≡ j + 1 → {a : Resized} → a ≡ kept q (4096 * s)
       → Leaves w (Over a)
   unfolding settled done
   settle-recut {g} {k} {j} m f {s} h i =
       let d : 4096 * s ≡ 4096 * suc j = omega arith in
-      leaves-as m f (over (ap (λ (b : Resized). leaves b (recut p g k j)) (i ∙ ap (kept q) d)))
+      leaves-as m f (over refl (ap (λ (b : Resized). leaves b (recut p g k j)) (i ∙ ap (kept q) d)))
 
   pub settle-move : {z : ℕ} → y ≡ Move z → Leaves p (Moving z)
   unfolding settled
@@ -220,7 +220,7 @@ module _ (c : ℕ) (p : Pool) (q n : ℕ) {x : Spot} (s : x ≡ spot c p q) {w :
   resize-over {r} m = go (change (p .bits) x n) (ap (λ (y : Spot). change (p .bits) y n) s) left (subst (Tells c p q n (change (p .bits) x n)) m told)
     where
       go : (y : Change) → y ≡ change (p .bits) (spot c p q) n → w ≡ settled p y → Tells c p q n y (Over r) → leaves r w ≡ resize c p q n
-      go y e f (over g) = ap (leaves r) f ∙ g ∙ ap (done c p q n) e
+      go y e f (over _ g) = ap (leaves r) f ∙ g ∙ ap (done c p q n) e
 
   -- or the block is still where it was, to be moved
   pub still-there : {z : ℕ} → t ≡ Moving z → w ≡ p

@@ -1,5 +1,6 @@
 -- A resize up to where a block is moved, and what that relies on. Assumes nothing.
 use mathlib.Core.Path.{_≡_}
+use mathlib.Core.Bool.{Bool, true, false}
 use Prim.Native.Nat.{ℕ, suc, _+_, _*_, _/_, _%_, _≤_, _<_}
 use Rattle.records.specs.Pool.{Pool}
 use Rattle.records.specs.Calls.{leaves}
@@ -30,7 +31,13 @@ settled p (Stay z) = p
 settled p (Recut g k j) = recut p g k j
 settled p (Move z) = p
 
--- what is told: the answer, or how many bytes the block has that is still to be moved
+abbrev pub isMove : Change → Bool
+isMove (Refuse r) = false
+isMove (Stay z) = false
+isMove (Recut g k j) = false
+isMove (Move z) = true
+
+-- what is told: the answer of a change that is no move, or how many bytes the block has that is still to be moved
 pub data Tells (c : ℕ) (p : Pool) (q n : ℕ) : Change → Settled → Type 0 where
-  over : {x : Change} {r : Resized} → leaves r (settled p x) ≡ done c p q n x → Tells c p q n x (Over r)
+  over : {x : Change} {r : Resized} → isMove x ≡ false → leaves r (settled p x) ≡ done c p q n x → Tells c p q n x (Over r)
   moving : {z : ℕ} → Tells c p q n (Move z) (Moving z)

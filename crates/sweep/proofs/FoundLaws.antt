@@ -154,9 +154,6 @@ module _ (c : ℕ) (p : Pool) (h : Good c p) (i : ℕ) (l : i < 512 * c) where
       go false e =
           omega (arith, bit-at-le (p .bits) i, eqb-false (bitAt (p .bits) i) 1 e) ∙ sym (ap kindBit (page-free c p (h .whole) i l e))
 
-  pub class-taken : (b : ℕ) → kindAt p i ≡ Class b → bitAt (p .bits) i ≡ 1
-  class-taken b e = page-bit ∙ ap kindBit e
-
 word-once : (k : Kind) (v w : ℕ) → k ≢ Damaged → WordIs v k → WordIs w k → v ≡ w
 word-once Edge v w n a b = a ∙ sym b
 word-once Free v w n a b = a ∙ sym b
@@ -178,15 +175,6 @@ module _ (c : ℕ) (p : Pool) (h : Good c p) where
       go : (v : Bool) → kindBit (cond v Free (kindAt p i)) ≡ cond v 0 (bitAt (p .bits) i)
       go true = refl
       go false = sym (page-bit c p h i l)
-
-  -- a page that is taken there is what it was
-  pub swept-same : (i : ℕ) → i < 512 * c → bitAt (swept c p .bits) i ≡ 1 → kindAt (swept c p) i ≡ kindAt p i
-  swept-same i l e = go (emptyTo p (suc i)) refl
-    where
-      go : (v : Bool) → emptyTo p (suc i) ≡ v → kindAt (swept c p) i ≡ kindAt p i
-      go true f =
-          absurd (omega (arith, sym e ∙ swept-bit i l ∙ ap (λ (v : Bool). cond v 0 (bitAt (p .bits) i)) f))
-      go false f = left-kind c p h i l ∙ ap (λ (v : Bool). cond v Free (kindAt p i)) f
 
   pub swept-word : (i : ℕ) → i < 512 * c
       → getD (swept c p .words) i 0 ≡ cond (eqb (bitAt (swept c p .bits) i) 1) (getD (p .words) i 0) 0

@@ -1,23 +1,23 @@
 -- `hints::clear` meets its contract. Assumes nothing.
-use Prim.Native.Nat.{_-_, _≤_}
-use Rattle.hints.proofs.RowLaws.{cleared-none, cleared-on, cleared-all}
 use Rattle.hints.specs.Hints.{Cleared}
-use borrow.Author.Needs.{needs}
+use Rattle.hints.proofs.CutLaws.{cleared-none, cleared-on, cleared-all}
+use Prim.Native.Nat.{_-_, _≤_}
 use native.Mathlib.Omega.{arith}
+use borrow.Author.Needs.{needs}
 use Rattle.hints.proofs.clear.Statement.{statement}
 use Rattle.hints.proofs.clear.Tie as tie
 
 abbrev Inv-loop : tie.InvT-loop
-Inv-loop hints₀ i₀ hints i = (i ≤ 3930) × (Cleared hints i)
+Inv-loop rows₀ i₀ rows i = (i ≤ 4320) × (Cleared rows i)
 
 abbrev μ-loop : tie.MeasureT-loop
-μ-loop hints₀ i₀ hints i = 3930 - i
+μ-loop rows₀ i₀ rows i = 4320 - i
 
 loop-holds : tie.Need-loop-holds Inv-loop μ-loop
 loop-holds c = (omega arith, cleared-none _ (c .pre))
 
-slice-write-hints : tie.Need-slice-write-hints Inv-loop μ-loop
-slice-write-hints c = let n = c .before .loop .inv .1 in omega arith
+slice-write-rows : tie.Need-slice-write-rows Inv-loop μ-loop
+slice-write-rows c = let n = c .before .loop .inv .1 in omega arith
 
 loop-again : tie.Need-loop-again Inv-loop μ-loop
 loop-again c = (omega arith, cleared-on (c .before .loop .inv .1) (omega arith))
@@ -32,5 +32,5 @@ pub clear-spec : {M : Type 1} → statement M
 clear-spec =
     tie.close
     (tie.spec
-    Inv-loop μ-loop loop-holds (λ c. search needs) slice-write-hints (λ c. search needs) (λ c. search needs) loop-again same-length
+    Inv-loop μ-loop loop-holds (λ c. search needs) slice-write-rows (λ c. search needs) (λ c. search needs) loop-again same-length
     returns)
