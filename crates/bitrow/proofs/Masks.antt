@@ -14,7 +14,7 @@ use Rattle.bitrow.proofs.Rows.{lt-or-ge}
 
 -- ---- the bits of `|`, `&` and `!`
 
-odd-of : (q d : ℕ) → d < 2 → (q * 2 + d) % 2 ≡ d
+pub odd-of : (q d : ℕ) → d < 2 → (q * 2 + d) % 2 ≡ d
 odd-of q d h = omega arith
 
 pub bit-or : (w v i : ℕ) → bit (bitOr w v) i ≡ max (bit w i) (bit v i)

@@ -102,16 +102,6 @@ pub record First (ws : List ℕ) (from to v r : ℕ) : Type 0 where
   pub below : (i : ℕ) → from ≤ i → i < r → bitAt ws i ≡ 1 - v
   pub here : r < to → bitAt ws r ≡ v
 
--- there is one such place only
-pub first-next : (ws : List ℕ) (from to v r : ℕ) → v < 2 → First ws from to v r → r ≡ nextBit v ws from (to - from)
-first-next ws from to v r d f =
-    let whole : to - from ≡ r - from + (to - r) = omega (arith, f .low, f .high) in
-    let there : from + (r - from) ≡ r = omega (arith, f .low) in
-    sym (ap (λ (x : ℕ). nextBit v ws from x) whole
-    ∙ next-skip v (r - from) ws from (to - r) d (λ k a b. f .below k a (omega (arith, f .low)))
-    ∙ ap (λ (x : ℕ). nextBit v ws x (to - r)) there
-    ∙ next-here v ws r (to - r) (λ l. f .here (omega arith)))
-
 first-of : (n : ℕ) (ws : List ℕ) (i v : ℕ) → v < 2 → First ws i (i + n) v (nextBit v ws i n)
 unfolding nextBit
 first-of zero ws i v d =

@@ -4,7 +4,7 @@ use mathlib.Core.Path.{_≡_, refl, sym, ap, ap₂, _∙_, subst}
 use mathlib.Core.Logic.{_⊎_, inl, inr, ⊎-elim}
 use mathlib.Core.Bool.{Bool, true, false}
 use Prim.Native.Nat.{ℕ, zero, suc, _+_, _-_, _/_, _%_, _^_, _≤_, _<_, zero-le, suc-le-suc}
-use native.Mathlib.Nat.{not-suc-le-zero, le-of-suc-le-suc, div-one, zero-div}
+use native.Mathlib.Nat.{add-zero, not-suc-le-zero, le-of-suc-le-suc, div-one, zero-div}
 use native.Mathlib.Numerals.{add-one, one-add}
 use native.Mathlib.Omega.{arith}
 use lib.Dec.{lit<}
@@ -81,6 +81,9 @@ trailing-lowest (suc k) v w h = ⊎-elim stop (more (trailing-lowest k v (w / 2)
         subst (λ (d : ℕ). Lowest (suc k) w v (under d (trailingZeros k (sum / 2)))) even
         (subst (λ (x : ℕ). Lowest (suc k) w v (suc (trailingZeros k x))) half
         (lowest-more k w v (trailingZeros k (w / 2 + (1 - v))) e f))
+
+pub one-lowest : (w : ℕ) → Lowest 64 w 1 (trailingZeros 64 w)
+one-lowest w = subst (λ (x : ℕ). Lowest 64 w 1 (trailingZeros 64 x)) (add-zero w) (trailing-lowest 64 1 w (omega arith))
 
 -- ---- the k + 1 low digits of a number: its lowest, and the k low ones of its half
 

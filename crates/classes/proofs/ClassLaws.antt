@@ -83,6 +83,11 @@ any-row b =
 
 -- ---- a class's numbers, as they were read from its row
 
+-- a row out of a copy of them all
+pub row-read : (d : Row) (t : List Row) (b i : ℕ) → t ≡ rows → d ≡ rowOf 0 0 0 → i ≡ b → getD t i d ≡ rowAt b
+unfolding rowAt
+row-read d t b i e z h = cc
+
 pub size-read : (b : ℕ) {z : ℕ} {r : Row} → r ≡ rowAt b → z ≡ r .size → z ≡ size b
 size-read b e f = f ∙ ap (λ (r : Row). r .size) e
 

@@ -31,8 +31,9 @@ use Rattle.resize.specs.Resize.{resizeOf}
 use Rattle.resize.specs.Resize as resizing
 use Rattle.resize.proofs.MeanLaws.{resize-swaps, resize-place, resize-kept}
 use Rattle.requestlog.specs.declared.Cursor.{Cursor}
-use Rattle.replay.specs.declared.Event.{Event}
-use Rattle.replay.specs.Run.{reserveEvent, releaseEvent, resizeEvent, Run, ended, runAll, runOf, replayOf}
+use Rattle.events.specs.declared.Event.{Event}
+use Rattle.events.specs.Doing.{reserveEvent, releaseEvent, resizeEvent}
+use Rattle.replay.specs.Run.{Run, ended, runAll, runOf, replayOf}
 use Rattle.lines.specs.Lines.{linesRoom, printed, telling, printedOf}
 use Rattle.demands.specs.Demand2.{blockOf, Plays, log-done, log-refused, other-count, start-field, reserve-field, release-field, resize-field, end-field}
 use Rattle.demands.specs.Demand3.{takeOut, note, notes, State, state, call, series, insert, sort}

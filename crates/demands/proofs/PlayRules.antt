@@ -26,9 +26,10 @@ use Rattle.requestlog.specs.Log.{due, written, cursor, outset, readAt}
 use Rattle.requestlog.proofs.LogLaws.{within-one, cond-cases, read-done, Fine, read-fine}
 use Rattle.requestlog.specs.Walk.{row}
 use Rattle.requestlog.proofs.WriteLaws.{read-written}
-use Rattle.replay.specs.declared.Event.the-variants.{Started, Ended}
+use Rattle.events.specs.declared.Event.the-variants.{Started, Ended}
 use Rattle.replay.specs.declared.Step.{Step}
-use Rattle.replay.specs.Run.{reserveEvent, releaseEvent, resizeEvent, doField, suits, readStep, stepOf, Run, ended, withEvent, onward, runFrom, runAll, runOf}
+use Rattle.events.specs.Doing.{reserveEvent, releaseEvent, resizeEvent, doField}
+use Rattle.replay.specs.Run.{suits, readStep, stepOf, Run, ended, withEvent, onward, runFrom, runAll, runOf}
 use Rattle.replay.proofs.RunLaws.{run-fit}
 use Rattle.replay.proofs.PrefixLaws.{run-next}
 use Rattle.demands.specs.Demand2.{Loggable, logged, inTurn}

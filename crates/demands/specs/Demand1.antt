@@ -29,8 +29,9 @@ use Rattle.requestlog.specs.declared.Field.the-variants.{Start}
 use Rattle.requestlog.specs.declared.Cursor.{Cursor}
 use Rattle.requestlog.specs.declared.Read.the-variants.{Next}
 use Rattle.requestlog.specs.Log.{member, written, outset, readAt}
-use Rattle.replay.specs.declared.Event.{Event}
-use Rattle.replay.specs.Run.{runOf, replayed, replayOf, bytesIn}
+use Rattle.events.specs.declared.Event.{Event}
+use Rattle.replay.specs.Run.{runOf, replayed, replayOf}
+use Rattle.events.specs.Doing.{bytesIn}
 use Rattle.lines.specs.Lines.{transcript, linesRoom, printed, printedOf}
 use Rattle.writer.specs.Append.{appended, appendChecks, tags, tagged, appendAs}
 use Rattle.exchange.specs.declared.Imported.{Imported}

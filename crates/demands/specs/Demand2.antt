@@ -41,8 +41,9 @@ use Rattle.requestlog.specs.declared.Cursor.{Cursor}
 use Rattle.requestlog.specs.declared.Read.the-variants.{Next, Done, Refused}
 use Rattle.requestlog.specs.Log.{written, outset, readAt}
 use Rattle.requestlog.specs.Walk.{row}
-use Rattle.replay.specs.declared.Event.the-variants.{Started, Ended}
-use Rattle.replay.specs.Run.{reserveEvent, releaseEvent, resizeEvent, doField, Run, ended, withEvent, runOf}
+use Rattle.events.specs.declared.Event.the-variants.{Started, Ended}
+use Rattle.events.specs.Doing.{reserveEvent, releaseEvent, resizeEvent, doField}
+use Rattle.replay.specs.Run.{Run, ended, withEvent, runOf}
 
 -- ---- reserve (RULES 5.2)
 

@@ -19,9 +19,10 @@ use Rattle.sweep.specs.Sweep.{sweepOf}
 use Rattle.release.specs.Release.{releaseOf}
 use Rattle.resize.specs.Resize.{resizeOf}
 use Rattle.census.specs.Census.{wordsFor, counted, censusOf}
-use Rattle.replay.specs.declared.Event.{Event}
-use Rattle.replay.specs.declared.Event.the-variants.{Started, Served, Denied, Freed, Unfreed, Kept, Moved, Unresized, Ended}
-use Rattle.replay.specs.Run.{reserveEvent, releaseEvent, resizeEvent, runOf, replayOf}
+use Rattle.events.specs.declared.Event.{Event}
+use Rattle.events.specs.declared.Event.the-variants.{Started, Served, Denied, Freed, Unfreed, Kept, Moved, Unresized, Ended}
+use Rattle.events.specs.Doing.{reserveEvent, releaseEvent, resizeEvent}
+use Rattle.replay.specs.Run.{runOf, replayOf}
 use Rattle.lines.specs.Lines.{linesRoom, printedOf}
 
 -- ---- the book: a list of blocks, each a place and a size

@@ -6,14 +6,15 @@ use mathlib.Core.List.{List}
 use Prim.Native.Nat.{ℕ, zero, suc, _+_, _-_, _*_, _/_, _%_, _≤_, _<_}
 use native.Mathlib.Nat.{zero-add}
 use native.Mathlib.Omega.{arith}
-use Rattle.bitrow.specs.Row.{bitAt}
-use Rattle.bitrow.proofs.Rows.{lt-or-ge}
+use lib.Dec.{lit<}
+use Rattle.bitrow.specs.Row.{bitAt, nextBit}
+use Rattle.bitrow.proofs.Rows.{lt-or-ge, First, next-first}
 use Rattle.gaps.specs.declared.Gap.{Gap}
 use Rattle.gaps.specs.declared.Found.{Found}
 use Rattle.gaps.specs.declared.Found.the-variants.{At, Nothing}
 use Rattle.gaps.specs.Gaps.{gap, gapsOf, noGap, shortest, foundAt, findInChunk, orElse, findFrom, findPages, IsGap, IsBest, HoldsNone, IsPlace, GapsMean}
 use Rattle.gaps.proofs.Scan.{free-or-taken, gaps-same}
-use Rattle.gaps.proofs.Listed.{in-mem, mem-in, listed-gap, gap-listed}
+use Rattle.gaps.proofs.Listed.{in-mem, mem-in, row-each, gaps-row, gap-listed}
 use Rattle.gaps.proofs.Choice.{InChunk, chunk-means}
 
 module _ (c : ℕ) (bits : List ℕ) (n : ℕ) where
@@ -93,7 +94,7 @@ module _ (c : ℕ) (bits : List ℕ) (n : ℕ) where
 
 pub gaps-mean : GapsMean
 gaps-mean = record {
-  listed = λ bits k x. (λ m. listed-gap bits k x (mem-in m), λ i. in-mem x (gapsOf bits k) (gap-listed bits k x i));
+  listed = λ bits k x. (λ m. row-each (gaps-row bits k) x (mem-in m) .0, λ i. in-mem x (gapsOf bits k) (gap-listed bits k x i));
   found = λ c bits n g. (found-place c bits n g, place-found c bits n g);
   nothing = λ c bits n. (nothing-none c bits n, none-nothing c bits n);
 }
@@ -115,9 +116,6 @@ module _ (bits : List ℕ) (k : ℕ) where
   free-before : (a e : ℕ) → Free (a + 1) e → bitAt bits a ≡ 0 → Free a e
   free-before a e f z i l h = ⊎-elim (λ j. f i (omega arith) h) (λ j. let same : i ≡ a = omega arith in ap (bitAt bits) same ∙ z) (lt-or-ge a i)
 
-  free-behind : (a e : ℕ) → Free a e → bitAt bits e ≡ 0 → Free a (e + 1)
-  free-behind a e f z i l h = ⊎-elim (λ j. f i l j) (λ j. let same : i ≡ e = omega arith in ap (bitAt bits) same ∙ z) (lt-or-ge i e)
-
   -- the gap's first page is d pages below a at most
   first-of : (d a e : ℕ) → 512 * k + 1 + d ≡ a → Free a e
       → (x : ℕ) × (512 * k + 1 ≤ x) × (x ≤ a) × Free x e × (512 * k + 1 < x → bitAt bits (x - 1) ≡ 1)
@@ -129,18 +127,12 @@ module _ (bits : List ℕ) (k : ℕ) where
       (x, l, omega arith, free, edge))
       (λ z. (a, omega arith, omega arith, f, λ l. z)) (free-or-taken bits (a - 1))
 
-  -- and it ends d pages behind e at most
-  end-of : (d a e : ℕ) → e + d ≡ 512 * k + 512 → Free a e
-      → (x : ℕ) × (e ≤ x) × (x ≤ 512 * k + 512) × Free a x × (x < 512 * k + 512 → bitAt bits x ≡ 1)
-  end-of zero a e r f = (e, omega arith, omega arith, f, λ l. absurd (omega arith))
-  end-of (suc d) a e r f =
-      ⊎-elim (λ z. let (x, l, h, free, edge) = end-of d a (e + 1) (omega arith) (free-behind a e f z) in (x, omega arith, h, free, edge))
-      (λ z. (e, omega arith, omega arith, f, λ l. z)) (free-or-taken bits e)
-
   pub free-around : (g m : ℕ) → 1 ≤ m → 512 * k + 1 ≤ g → g + m ≤ 512 * k + 512 → Free g (g + m) → Around bits k g m
   free-around g m some low high f =
       let (x, xl, xh, xf, xe) = first-of (g - (512 * k + 1)) g (g + m) (omega arith) f in
-      let (y, yl, yh, yf, ye) = end-of (512 * k + 512 - (g + m)) x (g + m) (omega arith) xf in
+      let y = nextBit 1 bits (g + m) (512 * k + 512 - (g + m)) in
+      let f : First bits (g + m) (512 * k + 512) 1 y = next-first bits (g + m) (512 * k + 512) 1 (lit< tt) high in
+      let yl = f .low in let yh = f .high in
       let ends : x + (y - x) ≡ y = omega arith in
       record {
         gap = gap x (y - x);
@@ -148,9 +140,9 @@ module _ (bits : List ℕ) (k : ℕ) where
           some = omega arith;
           low = xl;
           high = omega arith;
-          free = λ i a b. yf i a (omega arith);
+          free = λ i a b. ⊎-elim (λ j. xf i a j) (λ j. f .below i j (omega arith)) (lt-or-ge i (g + m));
           before = xe;
-          after = λ l. ap (bitAt bits) ends ∙ ye (omega arith);
+          after = λ l. ap (bitAt bits) ends ∙ f .here (omega arith);
         };
         low = xh;
         high = omega arith;

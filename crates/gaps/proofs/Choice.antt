@@ -6,7 +6,7 @@ use mathlib.Core.Logic.{_⊎_, inl, inr, ⊎-elim}
 use mathlib.Core.Bool.{Bool, cond}
 use mathlib.Core.List.{List, [], _∷_}
 use Prim.Native.Nat.{ℕ, suc, _+_, _-_, _≤_, _<_}
-use native.Mathlib.Nat.{sub-zero}
+use native.Mathlib.Nat.{le-refl, sub-zero}
 use native.Mathlib.Omega.{arith}
 use borrow.Author.Tests.{lt-ltb, le-ltb}
 use Rattle.bitrow.proofs.Rows.{lt-or-ge}
@@ -15,64 +15,38 @@ use Rattle.gaps.specs.declared.Found.{Found}
 use Rattle.gaps.specs.declared.Found.the-variants.{At, Nothing}
 use Rattle.gaps.specs.Gaps.{gapsOf, noGap, shortest, foundAt, findInChunk, orElse, findFrom, findPages, IsBest, HoldsNone}
 use Rattle.gaps.proofs.Scan.{better-took, better-short, better-kept, found-at, found-nothing}
-use Rattle.gaps.proofs.Listed.{In, listed-gap, gap-listed, Rising, gaps-rise}
+use Rattle.gaps.proofs.Listed.{In, Row, none, more, row-each, gaps-row, gap-listed}
+
+-- y is no longer than x, and comes no later where it is as long
+abbrev Beats : Gap → Gap → Type 0
+Beats y x = (y .len ≤ x .len) × (x .len ≡ y .len → y .at ≤ x .at)
 
 -- y is the shortest of best and the gaps of xs that hold n pages, and the first of those
 record Chosen (n : ℕ) (best : Gap) (xs : List Gap) (y : Gap) : Type 0 where
   from : (y ≡ best) ⊎ (In y xs × (n ≤ y .len) × (y .len < best .len))
-  least : (x : Gap) → In x xs → n ≤ x .len → y .len ≤ x .len
-  first : (x : Gap) → In x xs → n ≤ x .len → x .len ≡ y .len → (y ≡ best) ⊎ (y .at ≤ x .at)
+  beats : (x : Gap) → In x xs → n ≤ x .len → Beats y x
 
 len-of : {x y : Gap} → x ≡ y → x .len ≡ y .len
 len-of e = ap (λ (z : Gap). z .len) e
 
-at-of : {x y : Gap} → x ≡ y → x .at ≡ y .at
-at-of e = ap (λ (z : Gap). z .at) e
-
-module _ (n : ℕ) where
-  -- x is the best now
-  chosen-took : (x best : Gap) (xs : List Gap) (y : Gap) → ((z : Gap) → In z xs → x .at ≤ z .at) → n ≤ x .len → x .len < best .len
-      → Chosen n x xs y → Chosen n best (x ∷ xs) y
-  chosen-took x best xs y rise a b ch = record {
-    from = inr (⊎-elim (λ e. (inl e, omega (arith, len-of e), omega (arith, len-of e))) (λ t. (inr (t .0), t .1, omega (arith, t .2))) (ch .from));
-    least = λ z i h. ⊎-elim (λ e. omega (arith, len-of e, y≤x)) (λ j. ch .least z j h) i;
-    first = λ z i h q. inr (⊎-elim (λ e. mine z e q) (λ j. ⊎-elim (λ e. omega (arith, at-of e, rise z j)) (λ l. l) (ch .first z j h q)) i);
-  }
-    where
-      y≤x : y .len ≤ x .len
-      y≤x = ⊎-elim (λ e. omega (arith, len-of e)) (λ t. omega (arith, t .2)) (ch .from)
-
-      mine : (z : Gap) → z ≡ x → z .len ≡ y .len → y .at ≤ z .at
-      mine z e q = ⊎-elim (λ d. omega (arith, at-of d, at-of e)) (λ t. absurd (omega (arith, t .2, len-of e))) (ch .from)
+module _ {n : ℕ} {x best : Gap} {xs : List Gap} {y : Gap} where
+  -- what the best beats
+  passes : Chosen n best xs y → Beats best x → Beats y x
+  passes ch b = ⊎-elim (λ d. rw d b) (λ t. (omega (arith, t .2, b .0), λ q. absurd (omega (arith, t .2, b .0)))) (ch .from)
 
   -- the best is as it was
-  chosen-kept : (x best : Gap) (xs : List Gap) (y : Gap) → (n ≤ x .len → best .len ≤ x .len) → Chosen n best xs y → Chosen n best (x ∷ xs) y
-  chosen-kept x best xs y keep ch = record {
+  chosen-kept : (n ≤ x .len → Beats best x) → Chosen n best xs y → Chosen n best (x ∷ xs) y
+  chosen-kept keep ch = record {
     from = ⊎-elim (λ e. inl e) (λ t. inr (inr (t .0), t .1, t .2)) (ch .from);
-    least = λ z i h. ⊎-elim (λ e. omega (arith, y≤best, keep (omega (arith, len-of e)), len-of e)) (λ j. ch .least z j h) i;
-    first = λ z i h q. ⊎-elim (λ e. inl (mine z e h q)) (λ j. ch .first z j h q) i;
+    beats = λ z i h. ⊎-elim (λ e. rw e (passes ch (keep (omega (arith, len-of e))))) (λ j. ch .beats z j h) i;
   }
-    where
-      y≤best : y .len ≤ best .len
-      y≤best = ⊎-elim (λ e. omega (arith, len-of e)) (λ t. omega (arith, t .2)) (ch .from)
 
-      mine : (z : Gap) → z ≡ x → n ≤ z .len → z .len ≡ y .len → y ≡ best
-      mine z e h q = ⊎-elim (λ d. d) (λ t. absurd (omega (arith, t .2, keep (omega (arith, len-of e)), len-of e))) (ch .from)
-
-  shortest-chosen : (xs : List Gap) (best : Gap) → Rising xs → Chosen n best xs (shortest n best xs)
-  unfolding shortest
-  shortest-chosen [] best r = record { from = inl refl; least = λ x i h. absurd i; first = λ x i h q. absurd i }
-  shortest-chosen (x ∷ xs) best r =
-      ⊎-elim
-      (λ a. subst (λ (b : Gap). Chosen n best (x ∷ xs) (shortest n b xs)) (sym (better-short n x best a))
-      (chosen-kept x best xs _ (λ h. absurd (omega arith)) (shortest-chosen xs best (r .1))))
-      (λ a. ⊎-elim
-      (λ b. subst (λ (z : Gap). Chosen n best (x ∷ xs) (shortest n z xs)) (sym (better-took n x best a b))
-      (chosen-took x best xs _ (r .0) a b (shortest-chosen xs x (r .1))))
-      (λ b. subst (λ (z : Gap). Chosen n best (x ∷ xs) (shortest n z xs)) (sym (better-kept n x best a b))
-      (chosen-kept x best xs _ (λ h. b) (shortest-chosen xs best (r .1))))
-      (lt-or-ge (x .len) (best .len)))
-      (lt-or-ge (x .len) n)
+-- x is the best now
+chosen-took : {n : ℕ} {x best : Gap} {xs : List Gap} {y : Gap} → n ≤ x .len → x .len < best .len → Chosen n x xs y → Chosen n best (x ∷ xs) y
+chosen-took {x = x} a b ch = record {
+  from = inr (⊎-elim (λ e. (inl e, omega (arith, len-of e), omega (arith, len-of e))) (λ t. (inr (t .0), t .1, omega (arith, t .2))) (ch .from));
+  beats = λ z i h. ⊎-elim (λ e. rw e (passes ch (le-refl (x .len), λ q. le-refl (x .at)))) (λ j. ch .beats z j h) i;
+}
 
 -- what an answer for chunk k means
 abbrev pub InChunk : List ℕ → ℕ → ℕ → Found → Type 0
@@ -80,6 +54,25 @@ InChunk bits k n (At a) = (x : Gap) × (x .at ≡ a) × IsBest bits k n x
 InChunk bits k n Nothing = HoldsNone bits k n
 
 module _ (bits : List ℕ) (k n : ℕ) where
+  shortest-chosen : {a : ℕ} (xs : List Gap) (best : Gap) → Row bits k a xs → ((x : Gap) → In x xs → x .len ≡ best .len → best .at ≤ x .at)
+      → Chosen n best xs (shortest n best xs)
+  unfolding shortest
+  shortest-chosen [] best none early = record { from = inl refl; beats = λ x i h. absurd i }
+  shortest-chosen (x ∷ xs) best (more is low r) early =
+      let kept = shortest-chosen xs best r (λ z i. early z (inr i)) in
+      ⊎-elim
+      (λ s. rw (better-short n x best s) (chosen-kept (λ h. absurd (omega arith)) kept))
+      (λ s. ⊎-elim
+      (λ t. rw (better-took n x best s t) (chosen-took s t (shortest-chosen xs x r (λ z i q. row-each r z i .1))))
+      (λ t. rw (better-kept n x best s t) (chosen-kept (λ h. (t, early x (inl refl))) kept))
+      (lt-or-ge (x .len) (best .len)))
+      (lt-or-ge (x .len) n)
+
+  chosen : Chosen n noGap (gapsOf bits k) (shortest n noGap (gapsOf bits k))
+  chosen =
+      shortest-chosen (gapsOf bits k) noGap (gaps-row bits k)
+      (λ x i q. let is = row-each (gaps-row bits k) x i .0 in absurd (omega (arith, is .low, is .high)))
+
   answered : (y : Gap) → Chosen n noGap (gapsOf bits k) y → InChunk bits k n (foundAt y)
   answered y ch =
       ⊎-elim
@@ -95,19 +88,19 @@ module _ (bits : List ℕ) (k n : ℕ) where
 
       best : y .len < 512 → IsBest bits k n y
       best h = record {
-        is = listed-gap bits k y (one h .0);
+        is = row-each (gaps-row bits k) y (one h .0) .0;
         holds = one h .1;
-        least = λ z i l. ch .least z (gap-listed bits k z i) l;
-        lowest = λ z i q. ⊎-elim (λ e. absurd (omega (arith, len-of e))) (λ l. l) (ch .first z (gap-listed bits k z i) (omega (arith, one h .1)) q);
+        least = λ z i l. ch .beats z (gap-listed bits k z i) l .0;
+        lowest = λ z i q. ch .beats z (gap-listed bits k z i) (omega (arith, one h .1)) .1 q;
       }
 
       none : 512 ≤ y .len → HoldsNone bits k n
       none h z i =
-          ⊎-elim (λ l. l) (λ l. absurd (omega (arith, ch .least z (gap-listed bits k z i) l, i .low, i .high))) (lt-or-ge (z .len) n)
+          ⊎-elim (λ l. l) (λ l. absurd (omega (arith, ch .beats z (gap-listed bits k z i) l .0, i .low, i .high))) (lt-or-ge (z .len) n)
 
   pub chunk-means : InChunk bits k n (findInChunk bits k n)
   unfolding findInChunk
-  chunk-means = answered (shortest n noGap (gapsOf bits k)) (shortest-chosen n (gapsOf bits k) noGap (gaps-rise bits k))
+  chunk-means = answered (shortest n noGap (gapsOf bits k)) chosen
 
 -- ---- the turns of the search in a pool: there is no best gap yet or there is one, and it or else the chunks from k on give what all chunks
 -- give
@@ -135,7 +128,7 @@ module _ (bits : List ℕ) (n c : ℕ) where
     pub sought-turn : Sought bits n c (k + 1) next
     sought-turn = record {
       known = subst (λ (x : Gap). (x ≡ noGap) ⊎ (x .len < 512)) (sym alone)
-          (⊎-elim (λ z. inl z) (λ z. inr (z .2)) (shortest-chosen n (gapsOf bits k) noGap (gaps-rise bits k) .from));
+          (⊎-elim (λ z. inl z) (λ z. inr (z .2)) (chosen bits k n .from));
       gives = step ∙ sym (ap (λ (f : Found). orElse f (findFrom bits n k (c - k))) (found-nothing best h)) ∙ s .gives;
     }
 

@@ -4,18 +4,20 @@ use mathlib.Core.Path.{_≡_, refl, sym, ap, ap₂, _∙_, subst}
 use mathlib.Core.Logic.{_≢_, inr, ⊎-elim}
 use mathlib.Core.List.{List, []}
 use Prim.Native.Nat.{ℕ, _+_, _-_, _*_, _/_, _%_, _^_, _≤_, _<_}
+use native.Mathlib.Nat.{div-one}
 use native.Mathlib.Omega.{arith}
 use lib.Bits.{bitOr}
 use lib.Dec.{lit<}
 use lib.ListN.{length, getD, set}
 use lib.Seq.{getD-set-same, getD-set-other}
 use Rattle.bitrow.specs.Row.{bit, bitAt, putBit, nextBit, Lowest}
-use Rattle.bitrow.proofs.Rows.{lt-or-ge, First, first-next, first-at}
+use Rattle.bitrow.proofs.Rows.{rest, nextFrom, next-end, next-inside, next-passed, first-at}
 use Rattle.bitrow.proofs.Marks.{put-bit-same, put-bit-other}
 use Rattle.gaps.specs.declared.Gap.{Gap}
 use Rattle.gaps.specs.declared.Search.{Search}
 use Rattle.gaps.specs.Gaps.{gap, withGap, gapsFrom, gapsOf, better, shortest, searching, ahead, Ready, Shows, Searched, barred}
-use Rattle.gaps.proofs.Scan.{gaps-taken, skip-taken, gaps-same, shortest-with, better-exact, shortest-exact}
+use Rattle.gaps.proofs.Turns.{closed, skip}
+use Rattle.gaps.proofs.Scan.{gaps-taken, gaps-same, shortest-with, better-exact, shortest-exact}
 
 -- ---- page 0
 
@@ -57,51 +59,31 @@ shows ws q w j a b i l =
 
 -- ---- the first free page
 
--- the pages of chunk k before word i are taken
-abbrev pub Full : List ℕ → ℕ → ℕ → Type 0
-Full ws k i = (g : ℕ) → 512 * k ≤ g → g < 512 * k + 64 * i → bitAt ws g ≡ 1
+-- the search for it has come to word i of chunk k
+abbrev pub Seeks : List ℕ → ℕ → ℕ → Type 0
+Seeks ws k i = nextFrom 0 ws (512 * k + 64 * i) (512 * k + 512) ≡ nextBit 0 ws (512 * k) 512
 
-first-is : (ws : List ℕ) (k r : ℕ) → First ws (512 * k) (512 * k + 512) 0 r → r ≡ nextBit 0 ws (512 * k) 512
-first-is ws k r f =
-    let pages : 512 * k + 512 - 512 * k ≡ 512 = omega arith in
-    first-next ws (512 * k) (512 * k + 512) 0 r (lit< tt) f ∙ ap (nextBit 0 ws (512 * k)) pages
+module _ (ws : List ℕ) (k : ℕ) where
+  pub free-start : Seeks ws k 0
+  free-start = ap₂ (nextBit 0 ws) (omega arith) (omega arith)
 
-module _ (ws : List ℕ) (k i w t : ℕ) (full : Full ws k i) (word : w ≡ getD ws (8 * k + i) 0) (f : Lowest 64 w 0 t) where
-  up-to : (g : ℕ) → 512 * k ≤ g → g < 512 * k + 64 * i + t → bitAt ws g ≡ 1
-  up-to g a b =
-      ⊎-elim (λ l. full g a l)
-      (λ l. let j : ℕ = g - (512 * k + 64 * i) in let high = f .within in
-      ap (bitAt ws) (omega arith) ∙ shows ws (512 * k + 64 * i) w (8 * k + i) (omega arith) word j (omega arith) ∙ f .below j (omega arith))
-      (lt-or-ge g (512 * k + 64 * i))
+  module _ (i w t : ℕ) (s : Seeks ws k i) (l : i < 8) (word : w ≡ getD ws (8 * k + i) 0) (f : Lowest 64 w 0 t) where
+    lowest : Lowest 64 (rest ws (512 * k + 64 * i)) 0 t
+    lowest =
+        let at : 8 * k + i ≡ (512 * k + 64 * i) / 64 = omega arith in
+        let off : 0 ≡ (512 * k + 64 * i) % 64 = omega arith in
+        subst (λ (x : ℕ). Lowest 64 x 0 t) (word ∙ sym (div-one _) ∙ ap₂ (λ (j o : ℕ). getD ws j 0 / 2 ^ o) at off) f
 
-  pub free-turn : 64 ≤ t → Full ws k (i + 1)
-  free-turn l g a b = up-to g a (omega arith)
+    pub free-turn : 64 ≤ t → Seeks ws k (i + 1)
+    free-turn h =
+        let next : 512 * k + 64 * (i + 1) ≡ 512 * k + 64 * i + (64 - (512 * k + 64 * i) % 64) = omega arith in
+        ap (λ (q : ℕ). nextFrom 0 ws q (512 * k + 512)) next ∙ sym (next-passed 0 ws _ _ t (lit< tt) (omega arith) lowest (omega arith)) ∙ s
 
-  pub free-found : i < 8 → t < 64 → 512 * k + 64 * i + t ≡ nextBit 0 ws (512 * k) 512
-  free-found h l =
-      first-is ws k (512 * k + 64 * i + t)
-      (record {
-        low = omega arith;
-        high = omega arith;
-        below = up-to;
-        here = λ _. shows ws (512 * k + 64 * i) w (8 * k + i) (omega arith) word t l ∙ f .here l;
-      })
+    pub free-found : t < 64 → 512 * k + 64 * i + t ≡ nextBit 0 ws (512 * k) 512
+    free-found h = omega (arith, next-inside 0 ws _ (512 * k + 512) t (lit< tt) (omega arith) lowest (omega arith), s)
 
-pub free-none : (ws : List ℕ) (k i : ℕ) → 8 ≤ i → Full ws k i → 512 * k + 512 ≡ nextBit 0 ws (512 * k) 512
-free-none ws k i l full =
-    first-is ws k (512 * k + 512)
-    (record { low = omega arith; high = omega arith; below = λ g a b. full g a (omega arith); here = λ h. absurd (omega arith) })
-
--- a full chunk has no gap
-pub chunk-full : (bits : List ℕ) (k n r : ℕ) (before : Gap) → 8 * k < length bits → r ≡ nextBit 0 (barred bits k) (512 * k) 512
-    → r ≡ 512 * k + 512 → before ≡ shortest n before (gapsOf bits k)
-unfolding gapsFrom shortest
-chunk-full bits k n r before inside is end =
-    let pages : 512 ≡ 512 * k + 512 - 512 * k = omega arith in
-    let f = first-at (barred bits k) (512 * k) (512 * k + 512) 0 r (lit< tt) (omega arith) (is ∙ ap (nextBit 0 (barred bits k) (512 * k)) pages) in
-    ap (shortest n before)
-    (sym (skip-taken (barred bits k) 512 (512 * k) 0 (λ g a b. f .below g a (omega arith)))
-    ∙ gaps-barred bits k inside (512 * k) 512 0 refl refl refl)
+  pub free-none : (i : ℕ) → 8 ≤ i → Seeks ws k i → 512 * k + 512 ≡ nextBit 0 ws (512 * k) 512
+  free-none i l s = sym (next-end 0 ws _ _ (omega arith)) ∙ s
 
 -- ---- the words in turn: the search s has come to word i
 
@@ -150,3 +132,17 @@ module _ {bits : List ℕ} {k n : ℕ} {before : Gap} where
     pub chunk-settled : (x : Gap) → s .best .len ≡ n → better n x (s .best) ≡ shortest n before (gapsOf bits k)
     unfolding ahead
     chunk-settled x e = better-exact n x (s .best) e ∙ sym (shortest-exact n (s .best) _ e) ∙ c .same
+
+-- a full chunk has no gap
+pub chunk-full : (bits : List ℕ) (k n r : ℕ) (before : Gap) → 8 * k < length bits → r ≡ nextBit 0 (barred bits k) (512 * k) 512 → r ≡ 512 * k + 512
+    → before ≡ shortest n before (gapsOf bits k)
+unfolding ahead gapsFrom shortest
+chunk-full bits k n r before inside is end =
+    let to = 512 * k + 512 in
+    let pages : 512 ≡ to - 512 * k = omega arith in
+    let f = first-at (barred bits k) (512 * k) to 0 r (lit< tt) (omega arith) (is ∙ ap (nextBit 0 (barred bits k) (512 * k)) pages) in
+    let none : 0 ≡ to - to = omega arith in
+    ap (λ (m : ℕ). shortest n before (gapsFrom (barred bits k) to m m)) none
+    ∙ sym (skip (barred bits k) n to 512 (512 * k + 64 * 0) to (searching to before) (closed refl) (omega arith) (omega arith)
+    (λ g a b. f .below g (omega arith) (omega arith)))
+    ∙ chunk-start inside .same

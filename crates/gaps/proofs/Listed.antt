@@ -1,16 +1,16 @@
--- The list of a chunk's gaps: each of it is a gap, no gap is missed, and the first pages rise.
+-- The list of a chunk's gaps: each of it is a gap, the first pages rise, and no gap is missed.
 -- Assumes nothing.
-use mathlib.Core.Path.{_≡_, sym, ap, ap₂, subst}
+use mathlib.Core.Path.{_≡_, sym, ap₂, subst}
 use mathlib.Core.Logic.{_⊎_, inl, inr, ⊎-elim}
 use mathlib.Core.List.{List, [], _∷_, List·Memᴰ, List·Memᴰ·head, List·Memᴰ·tail}
 use Prim.Native.Nat.{ℕ, zero, suc, _+_, _-_, _*_, _≤_, _<_}
-use native.Mathlib.Nat.{eq-or-lt-of-le}
+use native.Mathlib.Nat.{le-refl, le-trans, eq-or-lt-of-le}
 use native.Mathlib.Omega.{arith}
 use Rattle.bitrow.specs.Row.{bitAt}
 use Rattle.bitrow.proofs.Rows.{lt-or-ge}
 use Rattle.gaps.specs.declared.Gap.{Gap}
 use Rattle.gaps.specs.Gaps.{gap, withGap, gapsFrom, gapsOf, IsGap}
-use Rattle.gaps.proofs.Scan.{free-or-taken, gaps-free, gaps-taken}
+use Rattle.gaps.proofs.Scan.{gaps-free, gaps-taken, gaps-cases}
 
 -- ---- membership, by cases of the list
 
@@ -27,13 +27,27 @@ pub mem-in : {x : Gap} {l : List Gap} → List·Memᴰ x l → In x l
 mem-in (List·Memᴰ·head e) = inl e
 mem-in (List·Memᴰ·tail m) = inr (mem-in m)
 
--- ---- each of the list is a gap
+-- ---- each of the list is a gap, and their first pages rise
 
 -- the l pages before page g are free, and the page before them is taken or page 0 of chunk k
 record Open (bits : List ℕ) (k g l : ℕ) : Type 0 where
   fits : 512 * k + 1 + l ≤ g
   free : (i : ℕ) → g ≤ i + l → i < g → bitAt bits i ≡ 0
   before : 512 * k + 1 + l < g → bitAt bits (g - l - 1) ≡ 1
+
+-- gaps at page a or behind it, and each behind the one before
+pub data Row (bits : List ℕ) (k : ℕ) : ℕ → List Gap → Type 0 where
+  none : {a : ℕ} → Row bits k a []
+  more : {a : ℕ} {x : Gap} {xs : List Gap} → IsGap bits k x → a ≤ x .at → Row bits k (x .at) xs → Row bits k a (x ∷ xs)
+
+lower : {bits : List ℕ} {k a b : ℕ} {xs : List Gap} → Row bits k b xs → a ≤ b → Row bits k a xs
+lower none l = none
+lower (more is low r) l = more is (le-trans l low) r
+
+pub row-each : {bits : List ℕ} {k a : ℕ} {xs : List Gap} → Row bits k a xs → (y : Gap) → In y xs → IsGap bits k y × (a ≤ y .at)
+row-each none y i = absurd i
+row-each (more is low r) y (inl e) = rw e (is, low)
+row-each (more is low r) y (inr i) = let (gap, high) = row-each r y i in (gap, omega arith)
 
 module _ (bits : List ℕ) (k : ℕ) where
   -- the open gap ends before page g
@@ -76,27 +90,25 @@ module _ (bits : List ℕ) (k : ℕ) where
       back : g ≡ g + 1 - 0 - 1
       back = omega arith
 
-  sound-with : (g l : ℕ) (others : List Gap) (x : Gap) → Open bits k g l → g ≤ 512 * k + 512 → (g < 512 * k + 512 → bitAt bits g ≡ 1)
-      → (In x others → IsGap bits k x) → In x (withGap (g - l) l others) → IsGap bits k x
-  sound-with g zero others x o h t rest i = rest i
-  sound-with g (suc l) others x o h t rest i = ⊎-elim (λ e. subst (IsGap bits k) (sym e) (ended g l o h t)) rest i
+  row-with : (g l : ℕ) {others : List Gap} → Open bits k g l → g ≤ 512 * k + 512 → (g < 512 * k + 512 → bitAt bits g ≡ 1)
+      → Row bits k g others → Row bits k (g - l) (withGap (g - l) l others)
+  row-with g zero o h t r = lower r (omega arith)
+  row-with g (suc l) o h t r = more (ended g l o h t) (le-refl _) (lower r (omega arith))
 
-  sound-from : (m g l : ℕ) → g + m ≡ 512 * k + 512 → Open bits k g l → (x : Gap) → In x (gapsFrom bits g m l) → IsGap bits k x
+  row-from : (m g l : ℕ) → g + m ≡ 512 * k + 512 → Open bits k g l → Row bits k (g - l) (gapsFrom bits g m l)
   unfolding gapsFrom
-  sound-from zero g l e o x i = sound-with g l [] x o (omega arith) (λ a. absurd (omega arith)) (λ z. absurd z) i
-  sound-from (suc m) g l e o x i =
-      ⊎-elim
-      (λ z. sound-from m (g + 1) (l + 1) (omega arith) (longer g l o z) x (subst (In x) (gaps-free bits g m l z) i))
-      (λ z. sound-with g l (gapsFrom bits (g + 1) m 0) x o (omega arith) (λ a. z)
-      (λ j. sound-from m (g + 1) 0 (omega arith) (anew g (omega (arith, o .fits)) z) x j)
-      (subst (In x) (gaps-taken bits g m l z) i))
-      (free-or-taken bits g)
+  row-from zero g l e o = row-with g l o (omega arith) (λ a. absurd (omega arith)) none
+  row-from (suc m) g l e o =
+      gaps-cases bits (Row bits k (g - l)) g m l
+      (λ z. lower (row-from m (g + 1) (l + 1) (omega arith) (longer g l o z)) (omega (arith, o .fits)))
+      (λ z. row-with g l o (omega arith) (λ a. z)
+      (lower (row-from m (g + 1) 0 (omega arith) (anew g (omega (arith, o .fits)) z)) (omega arith)))
 
-  pub listed-gap : (x : Gap) → In x (gapsOf bits k) → IsGap bits k x
+  pub gaps-row : Row bits k (512 * k + 1) (gapsOf bits k)
   unfolding gapsOf
-  listed-gap x i =
-      sound-from 511 (512 * k + 1) 0 (omega arith)
-      (record { fits = omega arith; free = λ j a b. absurd (omega arith); before = λ a. absurd (omega arith) }) x i
+  gaps-row =
+      lower (row-from 511 (512 * k + 1) 0 (omega arith)
+      (record { fits = omega arith; free = λ j a b. absurd (omega arith); before = λ a. absurd (omega arith) })) (omega arith)
 
 -- ---- each gap is in the list
 
@@ -127,13 +139,10 @@ module _ (bits : List ℕ) (k : ℕ) (x : Gap) (is : IsGap bits k x) where
       stop : x .at + x .len ≤ g → x .at + x .len ≡ g
       stop z = omega (arith, p .1)
   complete-from (suc m) g l e h (inr p) =
-      ⊎-elim
-      (λ z. subst (In x) (sym (gaps-free bits g m l z))
-      (complete-from m (g + 1) (l + 1) (omega arith) (omega arith) (⊎-elim (λ q. absurd (omega (arith, last q))) (λ q. inr q) next)))
-      (λ z. subst (In x) (sym (gaps-taken bits g m l z))
-      (in-with (g - l) l (gapsFrom bits (g + 1) m 0) x
-      (complete-from m (g + 1) 0 (omega arith) (omega arith) (⊎-elim (λ q. inl (omega arith, omega arith)) (λ q. inr q) next))))
-      (free-or-taken bits g)
+      gaps-cases bits (In x) g m l
+      (λ z. complete-from m (g + 1) (l + 1) (omega arith) (omega arith) (⊎-elim (λ q. absurd (omega (arith, last q))) (λ q. inr q) next))
+      (λ z. in-with (g - l) l (gapsFrom bits (g + 1) m 0) x
+      (complete-from m (g + 1) 0 (omega arith) (omega arith) (⊎-elim (λ q. inl (omega arith, omega arith)) (λ q. inr q) next)))
     where
       next : (g + 1 ≡ x .at) ⊎ (g + 1 < x .at)
       next = eq-or-lt-of-le (omega arith)
@@ -148,42 +157,3 @@ module _ (bits : List ℕ) (k : ℕ) (x : Gap) (is : IsGap bits k x) where
   gap-listed =
       complete-from 511 (512 * k + 1) 0 (omega arith) (omega arith)
       (⊎-elim (λ e. inl (omega arith, omega arith)) (λ l. inr l) (eq-or-lt-of-le (is .low)))
-
--- ---- the first pages rise along the list
-
-abbrev pub Rising : List Gap → Type 0
-Rising [] = Unit {0}
-Rising (x ∷ xs) = ((y : Gap) → In y xs → x .at ≤ y .at) × Rising xs
-
-rising-with : (a l : ℕ) (others : List Gap) → Rising others → ((y : Gap) → In y others → a ≤ y .at) → Rising (withGap a l others)
-rising-with a zero others r h = r
-rising-with a (suc l) others r h = (h, r)
-
-at-with : (a l : ℕ) (others : List Gap) (y : Gap) → (In y others → a ≤ y .at) → In y (withGap a l others) → a ≤ y .at
-at-with a zero others y h i = h i
-at-with a (suc l) others y h i = ⊎-elim (λ e. omega (arith, ap (λ (x : Gap). x .at) e)) h i
-
-module _ (bits : List ℕ) where
-  at-from : (m g l : ℕ) (y : Gap) → In y (gapsFrom bits g m l) → g - l ≤ y .at
-  unfolding gapsFrom
-  at-from zero g l y i = at-with (g - l) l [] y (λ z. absurd z) i
-  at-from (suc m) g l y i =
-      ⊎-elim
-      (λ z. omega (arith, at-from m (g + 1) (l + 1) y (subst (In y) (gaps-free bits g m l z) i)))
-      (λ z. at-with (g - l) l (gapsFrom bits (g + 1) m 0) y (λ j. omega (arith, at-from m (g + 1) 0 y j))
-      (subst (In y) (gaps-taken bits g m l z) i))
-      (free-or-taken bits g)
-
-  rising-from : (m g l : ℕ) → Rising (gapsFrom bits g m l)
-  unfolding gapsFrom
-  rising-from zero g l = rising-with (g - l) l [] tt (λ y i. absurd i)
-  rising-from (suc m) g l =
-      ⊎-elim
-      (λ z. subst Rising (sym (gaps-free bits g m l z)) (rising-from m (g + 1) (l + 1)))
-      (λ z. subst Rising (sym (gaps-taken bits g m l z))
-      (rising-with (g - l) l (gapsFrom bits (g + 1) m 0) (rising-from m (g + 1) 0) (λ y i. omega (arith, at-from m (g + 1) 0 y i))))
-      (free-or-taken bits g)
-
-  pub gaps-rise : (k : ℕ) → Rising (gapsOf bits k)
-  unfolding gapsOf
-  gaps-rise k = rising-from 511 (512 * k + 1) 0

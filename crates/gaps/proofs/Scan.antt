@@ -6,10 +6,9 @@ use mathlib.Core.Logic.{_⊎_, ⊎-elim}
 use mathlib.Core.Bool.{Bool, cond, _&&_}
 use mathlib.Core.List.{List, [], _∷_}
 use Prim.Native.Nat.{ℕ, zero, suc, _+_, _-_, _≤_, _<_}
-use native.Mathlib.Nat.{zero-add, suc-add, add-zero}
 use native.Mathlib.Omega.{arith}
 use borrow.Author.Tests.{le-leb, lt-leb, lt-ltb, le-ltb, eq-eqb, ne-eqb}
-use lib.Dec.{eqb, ltb, lit<}
+use lib.Dec.{ltb, lit<}
 use Rattle.bitrow.specs.Row.{bitAt}
 use Rattle.bitrow.proofs.Words.{v-or-other}
 use Rattle.bitrow.proofs.Rows.{bit-at-le, lt-or-ge}
@@ -21,39 +20,20 @@ pub free-or-taken : (bits : List ℕ) (g : ℕ) → (bitAt bits g ≡ 0) ⊎ (bi
 free-or-taken bits g = v-or-other 0 (bitAt bits g) (lit< tt) (omega (arith, bit-at-le bits g))
 
 module _ (bits : List ℕ) where
-  -- one page, with l free ones before it: what the list is where its bit is known
-  page : Bool → ℕ → ℕ → ℕ → List Gap
-  page free g m l =
-      let others = gapsFrom bits (g + 1) m (cond free (l + 1) 0) in
-      cond free others (withGap (g - l) l others)
-
+  -- one page, with l free ones before it
   pub gaps-free : (g m l : ℕ) → bitAt bits g ≡ 0 → gapsFrom bits g (suc m) l ≡ gapsFrom bits (g + 1) m (l + 1)
-  unfolding gapsFrom page
-  gaps-free g m l e = ap (λ (t : Bool). page t g m l) (eq-eqb (bitAt bits g) 0 e)
+  unfolding gapsFrom
+  gaps-free g m l e = rw (eq-eqb (bitAt bits g) 0 e) refl
 
   pub gaps-taken : (g m l : ℕ) → bitAt bits g ≡ 1 → gapsFrom bits g (suc m) l ≡ withGap (g - l) l (gapsFrom bits (g + 1) m 0)
-  unfolding gapsFrom page
-  gaps-taken g m l e = ap (λ (t : Bool). page t g m l) (ne-eqb (bitAt bits g) 0 (λ z. omega arith))
+  unfolding gapsFrom
+  gaps-taken g m l e = rw (ne-eqb (bitAt bits g) 0 (λ z. omega arith)) refl
 
-  -- j free pages lengthen the open gap
-  pub skip-free : (j g m l : ℕ) → ((i : ℕ) → g ≤ i → i < g + j → bitAt bits i ≡ 0)
-      → gapsFrom bits g (j + m) l ≡ gapsFrom bits (g + j) m (l + j)
-  skip-free zero g m l h = cc (zero-add m, add-zero g, add-zero l)
-  skip-free (suc j) g m l h =
-      ap (λ (x : ℕ). gapsFrom bits g x l) (suc-add j m)
-      ∙ gaps-free g (j + m) l (h g (omega arith) (omega arith))
-      ∙ skip-free j (g + 1) m (l + 1) (λ i a b. h i (omega arith) (omega arith))
-      ∙ ap₂ (λ (x y : ℕ). gapsFrom bits x m y) (omega arith) (omega arith)
-
-  -- j taken pages are passed with no gap open
-  pub skip-taken : (j g m : ℕ) → ((i : ℕ) → g ≤ i → i < g + j → bitAt bits i ≡ 1)
-      → gapsFrom bits g (j + m) 0 ≡ gapsFrom bits (g + j) m 0
-  skip-taken zero g m h = cc (zero-add m, add-zero g)
-  skip-taken (suc j) g m h =
-      ap (λ (x : ℕ). gapsFrom bits g x 0) (suc-add j m)
-      ∙ gaps-taken g (j + m) 0 (h g (omega arith) (omega arith))
-      ∙ skip-taken j (g + 1) m (λ i a b. h i (omega arith) (omega arith))
-      ∙ ap (λ (x : ℕ). gapsFrom bits x m 0) (omega arith)
+  -- what holds of the list in both cases
+  pub gaps-cases : (P : List Gap → Type 0) (g m l : ℕ) → (bitAt bits g ≡ 0 → P (gapsFrom bits (g + 1) m (l + 1)))
+      → (bitAt bits g ≡ 1 → P (withGap (g - l) l (gapsFrom bits (g + 1) m 0))) → P (gapsFrom bits g (suc m) l)
+  gaps-cases P g m l f t =
+      ⊎-elim (λ z. rw (gaps-free g m l z) (f z)) (λ z. rw (gaps-taken g m l z) (t z)) (free-or-taken bits g)
 
 -- rows with the same bits
 module _ (bits bits′ : List ℕ) where
@@ -61,12 +41,10 @@ module _ (bits bits′ : List ℕ) where
   unfolding gapsFrom
   gaps-same zero g l h = refl
   gaps-same (suc m) g l h =
-      let e : isFree bits g ≡ isFree bits′ g = ap (λ (x : ℕ). eqb x 0) (h g (omega arith) (omega arith)) in
-      ap (λ (v : Bool). gapped v bits) e ∙ ap (λ (x : List Gap). cond (isFree bits′ g) x (withGap (g - l) l x))
-      (gaps-same m (g + 1) (cond (isFree bits′ g) (l + 1) 0) (λ i a b. h i (omega arith) (omega arith)))
-    where
-      gapped : Bool → List ℕ → List Gap
-      gapped v x = cond v (gapsFrom x (g + 1) m (cond v (l + 1) 0)) (withGap (g - l) l (gapsFrom x (g + 1) m (cond v (l + 1) 0)))
+      rw (
+        h g (omega arith) (omega arith),
+        gaps-same m (g + 1) (cond (isFree bits′ g) (l + 1) 0) (λ i a b. h i (omega arith) (omega arith)),
+      ) refl
 
 -- ---- a gap is compared with the best before it
 

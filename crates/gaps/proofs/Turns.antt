@@ -2,40 +2,37 @@
 -- Assumes nothing.
 use mathlib.Core.Path.{_≡_, refl, sym, ap, ap₂, _∙_, subst}
 use mathlib.Core.Logic.{inl, inr}
-use mathlib.Core.Bool.{Bool, cond}
+use mathlib.Core.Bool.{Bool}
 use mathlib.Core.List.{List}
-use Prim.Native.Nat.{ℕ, _+_, _-_, _^_, _≤_, _<_}
+use Prim.Native.Nat.{ℕ, zero, suc, _+_, _-_, _^_, _≤_, _<_}
 use native.Mathlib.Omega.{arith}
 use borrow.Author.Tests.{lt-ltb, le-ltb, le-leb, lt-leb}
 use lib.Bits.{bitAnd, and-le-l}
-use lib.Count.{trailingZeros}
 use lib.Dec.{leb, lit<}
-use Rattle.bitrow.specs.Row.{digit, bit, bitAt}
+use Rattle.bitrow.specs.Row.{digit, bit, bitAt, Lowest}
 use Rattle.bitrow.proofs.Words.{bit-of-zero}
+use Rattle.bitrow.proofs.Lows.{one-within}
 use Rattle.gaps.specs.declared.Gap.{Gap}
 use Rattle.gaps.specs.declared.Search.{Search}
 use Rattle.gaps.specs.Gaps.{gap, withGap, gapsFrom, better, shortest, Edges, searching, atEdge, ahead, Ready, Shows, Searched}
-use Rattle.gaps.proofs.Scan.{gaps-free, gaps-taken, skip-free, skip-taken, shortest-with, shortest-exact}
-use Rattle.gaps.proofs.Edges.{lowest-edge, some-edge, unchanged, edge-behind, edge-here, edge-passed}
+use Rattle.gaps.proofs.Scan.{gaps-free, gaps-taken, shortest-with, shortest-exact}
+use Rattle.gaps.proofs.Edges.{unchanged, edge-behind, edge-here, edge-passed}
 
 -- ---- over pages that are alike, and over an edge
 
 -- the bit of the page before g: a gap is open there, or none is
-data Side (to g : ℕ) (s : Search) : ℕ → Type 0 where
+pub data Side (to g : ℕ) (s : Search) : ℕ → Type 0 where
   opened : s .start < g → Side to g s 0
   closed : s .start ≡ to → Side to g s 1
 
 module _ (n to e : ℕ) (s : Search) where
-  turned : Bool → Search
-  turned ends = cond ends (searching to (better n (gap (s .start) (e - s .start)) (s .best))) (searching e (s .best))
-
   pub at-end : s .start < e → atEdge n to e s ≡ searching to (better n (gap (s .start) (e - s .start)) (s .best))
-  unfolding atEdge turned
-  at-end l = ap turned (lt-ltb (s .start) e l)
+  unfolding atEdge
+  at-end l = rw (lt-ltb (s .start) e l) refl
 
   pub at-start : e ≤ s .start → atEdge n to e s ≡ searching e (s .best)
-  unfolding atEdge turned
-  at-start l = ap turned (le-ltb (s .start) e l)
+  unfolding atEdge
+  at-start l = rw (le-ltb (s .start) e l) refl
 
   side-over : {v : ℕ} → Side to e s v → e < to → Side to (e + 1) (atEdge n to e s) (1 - v)
   side-over (opened o) h = subst (λ (r : Search). Side to (e + 1) r 1) (sym (at-end o)) (closed refl)
@@ -54,20 +51,27 @@ side-ready (opened o) = inl o
 side-ready (closed o) = inr o
 
 module _ (bits : List ℕ) (n to : ℕ) where
-  -- the pages from g up to, not including, e are like the page before them
-  skip : (g e : ℕ) (s : Search) {v : ℕ} → Side to g s v → g ≤ e → e ≤ to → ((i : ℕ) → g ≤ i → i < e → bitAt bits i ≡ v)
-      → ahead bits n to g s ≡ ahead bits n to e s
+  -- page g is like the page before it
+  next : (g : ℕ) (s : Search) {v : ℕ} → Side to g s v → g < to → bitAt bits g ≡ v → ahead bits n to g s ≡ ahead bits n to (g + 1) s
   unfolding ahead
-  skip g e s (opened o) l h like =
+  next g s (opened o) h same =
       ap (shortest n (s .best))
       (ap (λ (m : ℕ). gapsFrom bits g m (g - s .start)) (omega arith)
-      ∙ skip-free bits (e - g) g (to - e) (g - s .start) (λ i a b. like i a (omega arith))
-      ∙ ap₂ (λ (x y : ℕ). gapsFrom bits x (to - e) y) (omega arith) (omega arith))
-  skip g e s (closed o) l h like =
+      ∙ gaps-free bits g (to - (g + 1)) (g - s .start) same
+      ∙ ap (gapsFrom bits (g + 1) (to - (g + 1))) (omega arith))
+  next g s (closed o) h same =
       ap (shortest n (s .best))
-      (ap₂ (λ (m x : ℕ). gapsFrom bits g m x) (omega arith) (omega arith)
-      ∙ skip-taken bits (e - g) g (to - e) (λ i a b. like i a (omega arith))
-      ∙ ap₂ (λ (x y : ℕ). gapsFrom bits x (to - e) y) (omega arith) (omega arith))
+      (ap₂ (gapsFrom bits g) (omega arith) (omega arith)
+      ∙ gaps-taken bits g (to - (g + 1)) 0 same
+      ∙ ap (gapsFrom bits (g + 1) (to - (g + 1))) (omega arith))
+
+  -- and so are those from g up to, not including, e
+  pub skip : (d g e : ℕ) (s : Search) {v : ℕ} → Side to g s v → g + d ≡ e → e ≤ to → ((i : ℕ) → g ≤ i → i < e → bitAt bits i ≡ v)
+      → ahead bits n to g s ≡ ahead bits n to e s
+  skip zero g e s side l h like = ap (λ (x : ℕ). ahead bits n to x s) (omega arith)
+  skip (suc d) g e s side l h like =
+      next g s side (omega arith) (like g (omega arith) (omega arith))
+      ∙ skip d (g + 1) e s (side-later side (omega arith)) (omega arith) h (λ i a b. like i (omega arith) b)
 
   -- page e is not
   over : (e : ℕ) (s : Search) {v : ℕ} → 1 ≤ n → Side to e s v → e < to → bitAt bits e ≡ 1 - v
@@ -129,28 +133,25 @@ module _ {w q to n : ℕ} {s : Search} (room : q + 64 ≤ to) where
     alike : (bits : List ℕ) → Shows bits q w → (t : ℕ) → i .place ≤ t → t ≤ 64 → ((j : ℕ) → j < t → bit edges j ≡ 0)
         → ahead bits n to (q + t) r ≡ ahead bits n to q s
     alike bits shows t low high none =
-        sym (skip bits n to (q + i .place) (q + t) r (i .side) (omega arith) (omega arith)
+        sym (skip bits n to (t - i .place) (q + i .place) (q + t) r (i .side) (omega arith) (omega arith)
         (λ j a b. ap (bitAt bits) (omega arith) ∙ shows (j - q) (omega arith)
         ∙ unchanged (side-lt (i .side)) (i .are) t high none (j - q) (omega arith) (omega arith)))
         ∙ i .same bits shows
 
-    pub word-turn : {e : ℕ} {next : Search} → 1 ≤ n → 0 < edges → e ≡ q + trailingZeros 64 edges → next ≡ atEdge n to e r
+    pub word-turn : {t : ℕ} {next : Search} → 1 ≤ n → 1 ≤ edges → Lowest 64 edges 1 t → next ≡ atEdge n to (q + t) r
         → Within w q to n s (bitAnd edges (edges - 1)) next
-    word-turn {next = next} some more at is =
-        let t = trailingZeros 64 edges in
-        let f = lowest-edge edges in
-        let l = some-edge edges t (i .word) more f in
+    word-turn {t} {next} some more f there =
+        let l = one-within edges t (i .word) more f in
         let v = i .bit-before in
         let v01 = side-lt (i .side) in
         let behind = edge-behind v01 (i .are) l f in
-        let there : next ≡ atEdge n to (q + t) r = is ∙ ap (λ (g : ℕ). atEdge n to g r) at in
         let side : Side to (q + t) r v = side-later (i .side) (omega arith) in
         record {
           place = t + 1;
           bit-before = 1 - v;
           high = omega arith;
           word = omega (arith, i .word, and-le-l edges (edges - 1));
-          are = edge-passed v01 (i .are) l f;
+          are = edge-passed v01 (i .are) l f (i .word) more;
           side = subst (λ (x : Search). Side to (q + (t + 1)) x (1 - v)) (sym there)
               (side-later (side-over n to (q + t) r side (omega arith)) (omega arith));
           same = λ bits shows.

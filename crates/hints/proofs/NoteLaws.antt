@@ -3,18 +3,21 @@ use mathlib.Core.Path.{_≡_, refl, sym, ap, _∙_, subst}
 use mathlib.Core.Logic.{_≢_, by-cases}
 use mathlib.Core.Bool.{Bool, true, false, not, _&&_, false≢true}
 use mathlib.Core.List.{List, [], _∷_}
-use Prim.Native.Nat.{ℕ, _+_, _-_, _*_, _/_, _%_, _^_, _≤_, _<_}
+use Prim.Native.Nat.{ℕ, _+_, _-_, _*_, _%_, _^_, _≤_, _<_}
 use native.Mathlib.Decide.{ℕ-discrete, decLt}
 use native.Mathlib.Omega.{arith}
 use types.Run.{OneOf, miss}
 use denote.Enum.Declared.{tagOf}
-use lib.Bits.{bitOr, or-lt}
+use lib.Bits.{bitOr}
 use lib.Dec.{eqb, ltb}
-use lib.ListN.{length, getD, set, take, drop}
-use lib.Pow.{pow-mono, pow-lt, shl-exact}
+use lib.ListN.{length, getD, set}
+use lib.Pow.{pow-mono}
 use borrow.Author.Tests.{eq-eqb, ne-eqb, lt-ltb, le-ltb}
 use borrow.Rule.Slice.PartMut.{putMid}
-use Rattle.bitrow.specs.Row.{digit, bit, putBit}
+use Rattle.bitrow.specs.Row.{digit, bit, wordPut}
+use Rattle.bitrow.specs.Mask.{maskOf}
+use Rattle.bitrow.proofs.Words.{digit-lt}
+use Rattle.bitrow.proofs.Lows.{put-had}
 use Rattle.bitrow.proofs.Masks.{put-same, put-other, bit-high}
 use Rattle.records.proofs.Kind.{the-type}
 use Rattle.records.specs.declared.Kind.{Kind}
@@ -26,62 +29,23 @@ use Rattle.records.proofs.RunLaws.{class-at-low}
 use Rattle.records.proofs.AdmitLaws.{admitted}
 use Rattle.blocks.proofs.KeepLaws.{admit-good}
 use Rattle.reserve.specs.Reserve.{hasSlot}
-use Rattle.hints.specs.Hints.{rowOf, Opens, Cut, Cuts, hasTo, Marks, Asked, marked, SameBut, Noted}
-use Rattle.hints.proofs.OpenLaws.{open-mask}
-use Rattle.hints.proofs.RowLaws.{part-noted}
+use Rattle.hints.specs.Hints.{slotsIn, Says, Cuts, hasTo, Marks, marked, SameBut, Noted}
+use Rattle.hints.proofs.OpenLaws.{put-under, says-mask, behind-clear}
+use Rattle.hints.proofs.RowLaws.{row-at, shifted, noted, lentRow, row-part, rows-back}
 use Rattle.hints.proofs.SlotLaws.{has-none}
-use Rattle.hints.proofs.FrontLaws.{row-part}
-
--- ---- the byte of a run, word by word
-
-pub asked-none : (ss row : List ℕ) (g : ℕ) → Asked ss row g 0 0
-asked-none ss row g = record { byte = omega arith; which = λ k l. absurd (omega arith) }
-
--- 1 shifted to place k
-pub shifted : (k : ℕ) → k < 64 → 1 * 2 ^ k % 2 ^ 64 ≡ 2 ^ k
-shifted k l = shl-exact {a = 1} 1 k 64 (omega arith) (omega arith) ∙ omega arith
-
-module _ {ss row : List ℕ} {g k o : ℕ} (h : Asked ss row g k o) (l : k < 8) where
-  abbrev said : ℕ → ℕ
-  said j = digit (not (eqb (getD ss (8 * g + j) 0) (getD row (130 + j) 0)))
-
-  asked-more : (x : ℕ) → x < 2 ^ (k + 1) → bit x k ≡ said k → ((j : ℕ) → j < k → bit x j ≡ bit o j) → Asked ss row g (k + 1) x
-  asked-more x b here else =
-      record {
-        byte = b;
-        which = λ j m. by-cases (ℕ-discrete j k) (λ e. ap (bit x) e ∙ here ∙ ap said (sym e)) (λ e. else j (omega arith) ∙ h .which j (omega arith));
-      }
-
-  -- the word is not the mask: the bit is set
-  pub asked-on : {x : ℕ} → getD ss (8 * g + k) 0 ≢ getD row (130 + k) 0 → x ≡ bitOr o (1 * 2 ^ k % 2 ^ 64) → Asked ss row g (k + 1) x
-  asked-on {x} n e =
-      let r : x ≡ bitOr o (2 ^ k) = e ∙ ap (bitOr o) (shifted k (omega arith)) in
-      asked-more x
-      (let a = h .byte in let m = pow-mono {i = k} {j = k + 1} (omega arith) in
-      subst (λ (y : ℕ). y < 2 ^ (k + 1)) (sym r) (or-lt (k + 1) o (2 ^ k) (omega arith) (pow-lt {i = k} {j = k + 1} (omega arith))))
-      (ap (λ (y : ℕ). bit y k) r ∙ put-same 1 o k (omega arith) (omega arith)
-      ∙ sym (ap (λ (t : Bool). digit (not t)) (ne-eqb (getD ss (8 * g + k) 0) (getD row (130 + k) 0) n)))
-      (λ j m. ap (λ (y : ℕ). bit y j) r ∙ put-other 1 o k j (omega arith) (omega arith) (omega arith))
-
-  -- the word is the mask
-  pub asked-off : {x : ℕ} → getD ss (8 * g + k) 0 ≡ getD row (130 + k) 0 → x ≡ o → Asked ss row g (k + 1) x
-  asked-off {x} n e =
-      asked-more x (let a = h .byte in let m = pow-mono {i = k} {j = k + 1} (omega arith) in omega arith)
-      (ap (λ (y : ℕ). bit y k) e ∙ bit-high o k (h .byte)
-      ∙ sym (ap (λ (t : Bool). digit (not t)) (eq-eqb (getD ss (8 * g + k) 0) (getD row (130 + k) 0) n)))
-      (λ j m. ap (λ (y : ℕ). bit y j) e)
-
-pub asked-all : {ss row : List ℕ} {g k o : ℕ} → Asked ss row g k o → k ≡ 8 → Asked ss row g 8 o
-asked-all {ss} {row} {g} {k} {o} h e = subst (λ (n : ℕ). Asked ss row g n o) e h
-
--- ---- the mark of a run, as the code puts it
-
-pub mark-put : (row : List ℕ) (g : ℕ) (v : Bool) {r r′ : List ℕ} → r ≡ putBit (digit v) row g
-    → r′ ≡ putBit (digit (not (eqb (getD r (g / 64) 0) 0))) r (8192 + g / 64) → r′ ≡ marked row g v
-unfolding marked
-mark-put row g v e f = f ∙ ap (λ (x : List ℕ). putBit (digit (not (eqb (getD x (g / 64) 0) 0))) x (8192 + g / 64)) e
 
 -- ---- a run that is looked at anew
+
+-- the bits of o say which of the first n slot words have a free slot
+pub record Told (ss : List ℕ) (b g n o : ℕ) : Type 0 where
+  pub byte : o < 2 ^ n
+  pub which : (k : ℕ) → k < n → Says (getD ss (8 * g + k) 0) (slotsIn b k) (bit o k)
+
+pub told-none : (ss : List ℕ) (b g : ℕ) → Told ss b g 0 0
+told-none ss b g = record { byte = omega arith; which = λ k l. absurd (omega arith) }
+
+pub told-byte : {ss : List ℕ} {b g n o : ℕ} → Told ss b g n o → n ≡ 8 → o < 256
+told-byte {ss} {b} {g} {n} {o} h e = subst (λ (x : ℕ). o < 2 ^ x) e (h .byte)
 
 -- what the code relies on at the first page of a class run
 pub record Placed (q : Pool) (g b : ℕ) : Type 0 where
@@ -93,32 +57,42 @@ module _ (c : ℕ) (q : Pool) (ok : admitOf c q ≡ 0) (g b : ℕ) (l : g < 512 
   pub placed : Placed q g b
   placed = let h = admitted c q ok .shape in record { class = class-at-low q g b k; few = omega arith; room = omega arith }
 
-  pub opens-asked : (row : List ℕ) (o : ℕ) → Cut b row → ((i : ℕ) → getD (q .slots) i 0 < 2 ^ 64) → Asked (q .slots) row g 8 o → Opens (q .slots) b g o
-  opens-asked row o cut words h =
-      record {
-        byte = h .byte;
-        which =
-            λ j m. h .which j m ∙ ap (λ (x : ℕ). digit (not (eqb (getD (q .slots) (8 * g + j) 0) x))) (cut .masks j m)
-            ∙ sym (ap digit (open-mask c q (admit-good c q ok) g b l k j m (words (8 * g + j))));
-      }
+  module _ (rows : List ℕ) (cuts : Cuts rows) {j o : ℕ} (fits : getD (q .slots) (8 * g + j) 0 < 2 ^ 64) (h : Told (q .slots) b g j o) (m : j < 8) where
+    abbrev other : Bool
+    other = not (eqb (getD (q .slots) (8 * g + j) 0) (getD rows (144 * b + 130 + j) 0))
 
-  pub noted-anew : (rows opens : List ℕ) → Cuts rows → (o : ℕ) → ((i : ℕ) → getD (q .slots) i 0 < 2 ^ 64)
-      → Asked (q .slots) (take (144 * b + 144 - 144 * b) (drop (144 * b) rows)) g 8 o
-      → (e : List ℕ) → e ≡ marked (take (144 * b + 144 - 144 * b) (drop (144 * b) rows)) g (not (eqb o 0))
+    told-next : {x : ℕ} → x ≡ wordPut (digit other) o j → Told (q .slots) b g (j + 1) x
+    told-next {x} e =
+        let more = pow-mono {i = j} {j = j + 1} (omega arith) in let low = h .byte in
+        let w : ℕ = getD (q .slots) (8 * g + j) 0 in
+        let at : 144 * b + 130 + j ≡ 144 * b + (130 + j) = omega arith in
+        let mask : getD rows (144 * b + 130 + j) 0 ≡ maskOf 0 (slotsIn b j) =
+        rw at (sym (row-at rows b (130 + j) (omega arith))) ∙ cuts .cut b (placed .class) .masks j m in
+        let says : Says w (slotsIn b j) (digit other) =
+        rw mask (says-mask w (slotsIn b j) (omega arith) fits (λ i y z. behind-clear c q (admit-good c q ok) g b l k j i m z (omega arith))) in
+        record {
+          byte = rw e (put-under (digit other) o j (j + 1) (omega arith) (omega arith));
+          which =
+              λ i y. by-cases (ℕ-discrete i j) (λ z. rw (z, e, put-same (digit other) o j (digit-lt other) (omega arith)) says)
+              (λ z. rw (e, put-other (digit other) o j i (omega arith) (omega arith) z) (h .which i (omega arith)));
+        }
+
+    -- the word is not the mask: the bit is set
+    pub told-on : {x : ℕ} → getD (q .slots) (8 * g + j) 0 ≢ getD rows (144 * b + 130 + j) 0 → x ≡ bitOr o (1 * 2 ^ j % 2 ^ 64) → Told (q .slots) b g (j + 1) x
+    told-on n e = told-next (e ∙ rw (ne-eqb (getD (q .slots) (8 * g + j) 0) (getD rows (144 * b + 130 + j) 0) n, shifted j (omega arith)) refl)
+
+    -- the word is the mask
+    pub told-off : {x : ℕ} → getD (q .slots) (8 * g + j) 0 ≡ getD rows (144 * b + 130 + j) 0 → x ≡ o → Told (q .slots) b g (j + 1) x
+    told-off n e =
+        let more = pow-mono {i = j} {j = 64} (omega arith) in let low = h .byte in
+        told-next (e ∙ rw (eq-eqb (getD (q .slots) (8 * g + j) 0) (getD rows (144 * b + 130 + j) 0) n)
+        (put-had o j (omega arith) 0 (omega arith) (omega arith) (bit-high o j (h .byte))))
+
+  pub noted-anew : (rows opens : List ℕ) {j o : ℕ} → Told (q .slots) b g j o → j ≡ 8 → (e : List ℕ) → e ≡ marked (lentRow rows b) g (not (eqb o 0))
       → Noted q b g rows opens (putMid (144 * b) (144 * b + 144 - 144 * b) rows e) (set opens g o)
-  noted-anew rows opens cuts o words h e f n p m marks same =
-      let part = row-part rows b in
-      let class = placed .class in
-      part-noted marks b (144 * b + 144 - 144 * b) class (omega arith) part
-      (record {
-        page = g;
-        byte = o;
-        low = placed .few;
-        same = same;
-        which = opens-asked (rowOf rows b) o (cuts .cut b class) words (subst (λ (x : List ℕ). Asked (q .slots) x g 8 o) part h);
-        mark = f;
-        put = refl;
-      })
+  noted-anew rows opens {j} {o} h all e f n p m marks same =
+      rows-back rows e b (rw (f, row-part rows b)
+      (noted marks (placed .few) same o (record { byte = told-byte h all; which = λ i y. h .which i (omega arith) })))
 
 -- ---- page by page
 

@@ -62,11 +62,12 @@ module _ (c v : ℕ) (p : Pool) (h : Good c p) (g b s : ℕ) (v01 : v < 2) (l : 
       (λ x. has-same c p (putSlot v p g s) d i k (sym (slot-kinds c v p g s i))
       (λ t z. sym (slot-other c v p g s v01 (shaped-lengths _ _ _ _ (h .shape)) l m i t (λ y. x (omega arith)))))
 
-  words-kept : (i k : ℕ) → k < 8 → i ≢ g → getD (p .slots) (8 * i + k) 0 ≡ getD (putSlot v p g s .slots) (8 * i + k) 0
+  -- the words of other pages, and the other words of this one
+  pub words-kept : (i j : ℕ) → j < 8 → (i ≡ g → j ≢ s / 64) → getD (p .slots) (8 * i + j) 0 ≡ getD (putSlot v p g s .slots) (8 * i + j) 0
   unfolding putSlot putBit
-  words-kept i k x n =
-      sym (getD-set-other (p .slots) ((512 * g + s) / 64) (8 * i + k) (wordPut v (getD (p .slots) ((512 * g + s) / 64) 0) ((512 * g + s) % 64)) 0
-      (λ y. n (omega arith)))
+  words-kept i j x n =
+      sym (getD-set-other (p .slots) ((512 * g + s) / 64) (8 * i + j) (wordPut v (getD (p .slots) ((512 * g + s) / 64) 0) ((512 * g + s) % 64)) 0
+      (λ y. let same : i ≡ g = omega arith in n same (omega arith)))
 
   pub slot-same-but : SameBut (512 * c) p (512 * c) (putSlot v p g s) b g
   slot-same-but =
@@ -75,5 +76,5 @@ module _ (c v : ℕ) (p : Pool) (h : Good c p) (g b s : ℕ) (v01 : v < 2) (l : 
         inside = l;
         has = λ d i k n. to-same (512 * c) p (putSlot v p g s) d i (slot-has d i n);
         kind = λ d i k n f. (k, sym (slot-kinds c v p g s i) ∙ f);
-        words = λ i k x y n. words-kept i k y n;
+        words = λ i k x y n. words-kept i k y (λ z. absurd (n z));
       }

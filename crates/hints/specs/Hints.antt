@@ -1,15 +1,15 @@
 -- Marks beside sound records, for a caller that reserves and releases many times: where the free slots of each class are, in levels of one
 -- word each, so that the lowest one is found in a fixed number of steps, however many chunks there are. Assumes nothing.
 use mathlib.Core.Path.{_≡_}
-use mathlib.Core.Logic.{_≢_, _⊎_}
+use mathlib.Core.Logic.{_≢_}
 use mathlib.Core.Bool.{Bool, not, cond, _&&_}
-use mathlib.Core.List.{List}
-use Prim.Native.Nat.{ℕ, _+_, _-_, _*_, _/_, _%_, _^_, _≤_, _<_, min}
+use mathlib.Core.List.{List, _++_}
+use Prim.Native.Nat.{ℕ, _+_, _-_, _*_, _/_, _%_, _≤_, _<_, min}
 use lib.Dec.{eqb, ltb}
-use lib.ListN.{length, getD, set, take, drop}
-use Rattle.bitrow.specs.Row.{digit, bit, isSet, Lowest, nextBit, putBit}
+use lib.ListN.{length, getD, take, drop}
+use Rattle.bitrow.specs.Row.{digit, bit, isSet, Lowest, putBit}
 use Rattle.bitrow.specs.Mask.{maskOf}
-use Rattle.classes.specs.Classes.{size, slots, pages}
+use Rattle.classes.specs.Classes.{size, slots}
 use Rattle.records.specs.declared.Kind.the-variants.{Class}
 use Rattle.records.specs.Pool.{Pool, kindAt}
 use Rattle.records.specs.Calls.{Left, leaves}
@@ -44,20 +44,30 @@ rowLength = 144
 abbrev pub rowOf : List ℕ → ℕ → List ℕ
 rowOf rows b = take rowLength (drop (rowLength * b) rows)
 
+-- the rows with another one as that of class b
+unfoldable pub rowsWith : List ℕ → ℕ → List ℕ → List ℕ
+rowsWith rows b row = take (rowLength * b) rows ++ (row ++ drop rowLength (drop (rowLength * b) rows))
+
 -- ---- what they say
 
 -- how many slots of a run of class b have their bits in its slot word k
 abbrev pub slotsIn : ℕ → ℕ → ℕ
 slotsIn b k = min 64 (slots b - 64 * k)
 
--- one of these is free, in the run at page g
-unfoldable pub openAt : List ℕ → ℕ → ℕ → ℕ → Bool
-openAt ss b g k = ltb (nextBit 0 ss (512 * g + 64 * k) (slotsIn b k)) (512 * g + 64 * k + slotsIn b k)
+-- one of the first n bits of the word w is 0
+pub record Spare (w n : ℕ) : Type 0 where
+  pub place : ℕ
+  pub few : place < n
+  pub free : bit w place ≡ 0
+
+-- the bit v says whether the word w, of n slots, has a free one: 1 where it has, 0 where all are taken
+abbrev pub Says : ℕ → ℕ → ℕ → Type 0
+Says w n v = (v ≡ 1 → Spare w n) × (v ≡ 0 → (u : ℕ) → u < n → bit w u ≡ 1)
 
 -- the byte o says which slot words of the run of class b at page g have a free slot
 pub record Opens (ss : List ℕ) (b g o : ℕ) : Type 0 where
   pub byte : o < 256
-  pub which : (k : ℕ) → k < 8 → bit o k ≡ digit (openAt ss b g k)
+  pub which : (k : ℕ) → k < 8 → Says (getD ss (8 * g + k) 0) (slotsIn b k) (bit o k)
 
 -- the numbers of class b stand in its row
 pub record Cut (b : ℕ) (row : List ℕ) : Type 0 where
@@ -93,29 +103,20 @@ pub record Marks (n : ℕ) (p : Pool) (rows opens : List ℕ) : Type 0 where
 -- ---- how they start
 
 -- the first n numbers are 0
-pub record Cleared (rows : List ℕ) (n : ℕ) : Type 0 where
+pub record Zeros (rows : List ℕ) (n : ℕ) : Type 0 where
   pub long : length rows ≡ 4320
   pub zero : (i : ℕ) → i < n → getD rows i 0 ≡ 0
 
--- the masks of the first k slot words of a run of n slots were written into a row, and no word of marks or tops
-pub record Masked (row row′ : List ℕ) (n k : ℕ) : Type 0 where
-  pub long : length row′ ≡ 144
-  pub masks : (j : ℕ) → j < k → getD row′ (maskAt + j) 0 ≡ maskOf 0 (min 64 (n - 64 * j))
-  pub same : (j : ℕ) → j < maskAt → getD row′ j 0 ≡ getD row j 0
-
--- the numbers of class b were written into a row, and no word of marks or tops
-pub record Written (b : ℕ) (row row′ : List ℕ) : Type 0 where
-  pub cut : Cut b row′
-  pub same : (j : ℕ) → j < maskAt → getD row′ j 0 ≡ getD row j 0
+-- the number at place j of the row of class b before any page is looked at
+unfoldable pub started : ℕ → ℕ → ℕ
+started b j =
+    cond (ltb j maskAt) 0
+    (cond (ltb j sizeAt) (maskOf 0 (slotsIn b (j - maskAt)))
+    (cond (eqb j countAt) (slots b) (cond (eqb j shareAt) (4294967295 / size b + 1) (size b))))
 
 -- the numbers of all classes, and no mark: the marks of no page
 abbrev pub Blank : List ℕ → Type 0
 Blank rows = (p : Pool) (opens : List ℕ) → length opens ≡ 8192 → Marks 0 p rows opens
-
--- the byte o says which of the first n slot words of page g are not the mask in the row
-pub record Asked (ss row : List ℕ) (g n o : ℕ) : Type 0 where
-  pub byte : o < 2 ^ n
-  pub which : (k : ℕ) → k < n → bit o k ≡ digit (not (eqb (getD ss (8 * g + k) 0) (getD row (maskAt + k) 0)))
 
 -- ---- how they change
 
@@ -137,27 +138,26 @@ pub record SameBut (n : ℕ) (p : Pool) (m : ℕ) (q : Pool) (b g : ℕ) : Type 
 abbrev pub Noted : Pool → ℕ → ℕ → List ℕ → List ℕ → List ℕ → List ℕ → Type 0
 Noted q b g rows opens rows′ opens′ = (n : ℕ) (p : Pool) (m : ℕ) → Marks n p rows opens → SameBut n p m q b g → Marks m q rows′ opens′
 
--- the row and the bytes of class b were looked at anew, at the one page whose run differs
-pub record Renewed (n : ℕ) (p : Pool) (m : ℕ) (q : Pool) (b : ℕ) (row opens row′ opens′ : List ℕ) : Type 0 where
-  pub page : ℕ
-  pub byte : ℕ
-  pub low : page < 8192
-  pub same : SameBut n p m q b page
-  pub which : Opens (q .slots) b page byte
-  pub mark : row′ ≡ marked row page (not (eqb byte 0))
-  pub put : opens′ ≡ set opens page byte
+-- ---- the row of one class, lent by itself
 
--- ---- where a row finds a slot
-
--- the row and the bytes of a class of a good pool; word j is the first that has a mark, and the top word `top` says so
-pub record Front (p : Pool) (row opens : List ℕ) (j top : ℕ) : Type 0 where
+-- out of the marks of a good pool
+pub record Part (p : Pool) (row opens : List ℕ) : Type 0 where
   pub chunks : ℕ
   pub class : ℕ
+  pub rows : List ℕ
   pub good : Good chunks p
-  pub cut : Cut class row
-  pub marks : Row (512 * chunks) p class row
-  pub wide : length opens ≡ 8192
-  pub byte : (g : ℕ) → g < 512 * chunks → kindAt p g ≡ Class class → Opens (p .slots) class g (getD opens g 0)
+  pub low : class < 30
+  pub marks : Marks (512 * chunks) p rows opens
+  pub own : row ≡ rowOf rows class
+  pub long : length row ≡ 144
+
+-- it came back as row′, among marks of the pool q
+abbrev pub Back : {p : Pool} {row opens : List ℕ} → Part p row opens → Pool → List ℕ → List ℕ → Type 0
+Back l q row′ opens′ = Marks (512 * l .chunks) q (rowsWith (l .rows) (l .class) row′) opens′
+
+-- word j is its first that has a mark, and the top word `top` says so
+pub record Front (p : Pool) (row opens : List ℕ) (j top : ℕ) : Type 0 where
+  pub part : Part p row opens
   pub inside : j < 128
   pub word : top ≡ getD row (topAt + j / 64) 0
   pub lowest : Lowest 64 top 1 (j % 64)
@@ -175,33 +175,8 @@ taking c p b =
 
 -- the lowest free slot of the class in front was taken: the answer, the pool, and its row and bytes
 abbrev pub Took : {p : Pool} {row opens : List ℕ} {j top : ℕ} → Front p row opens j top → ℕ → Pool → List ℕ → List ℕ → Type 0
-Took {p} {row} {opens} f r q row′ opens′ =
-    (leaves r q ≡ taking (f .chunks) p (f .class)) × Renewed (512 * f .chunks) p (512 * f .chunks) q (f .class) row opens row′ opens′
+Took {p} f r q row′ opens′ = (leaves r q ≡ taking (f .part .chunks) p (f .part .class)) × Back (f .part) q row′ opens′
 
 -- what starts at byte `off` of the run of class b at page g is given back
 unfoldable pub giving : Pool → ℕ → ℕ → ℕ → Left ℕ Pool
 giving p g b off = leaves (released (slotSpot (p .slots) g b off)) (giveBack p (slotSpot (p .slots) g b off))
-
--- the row and the bytes of a class of a good pool, which has a run at page g; byte `off` lies in the pages of this run
-pub record Held (p : Pool) (row opens : List ℕ) (g off : ℕ) : Type 0 where
-  pub chunks : ℕ
-  pub class : ℕ
-  pub good : Good chunks p
-  pub inside : g < 512 * chunks
-  pub run : kindAt p g ≡ Class class
-  pub within : off < 4096 * pages class
-  pub cut : Cut class row
-  pub wide : length opens ≡ 8192
-  pub byte : Opens (p .slots) class g (getD opens g 0)
-
--- a refusal leaves all as it was
-pub record Kept (p : Pool) (row opens : List ℕ) (q : Pool) (row′ opens′ : List ℕ) : Type 0 where
-  pub same : q ≡ p
-  pub numbers : row′ ≡ row
-  pub bytes : opens′ ≡ opens
-
--- what starts at this byte was given back: the answer, the pool, and its row and bytes
-abbrev pub Gave : {p : Pool} {row opens : List ℕ} {g off : ℕ} → Held p row opens g off → ℕ → Pool → List ℕ → List ℕ → Type 0
-Gave {p} {row} {opens} {g} {off} h r q row′ opens′ =
-    (leaves r q ≡ giving p g (h .class) off)
-    × (Kept p row opens q row′ opens′ ⊎ Renewed (512 * h .chunks) p (512 * h .chunks) q (h .class) row opens row′ opens′)

@@ -5,15 +5,14 @@ use refusals::FREE_SLOT;
 use refusals::NO_BLOCK;
 ghost use mathlib.Core.Path.{_≡_};
 ghost use mathlib.Core.Bool.{true};
-ghost use Prim.Native.Nat.{_+_, _-_, _*_, _<_, _≤_, min};
+ghost use Prim.Native.Nat.{_+_, _*_, _≤_, _<_};
 ghost use lib.ListN.{length};
-ghost use Rattle.bitrow.specs.Mask.{maskOf};
-ghost use Rattle.classes.specs.Classes.{pages};
+ghost use Rattle.classes.specs.Classes.{size, slots, pages};
 ghost use Rattle.records.specs.declared.Kind.the-variants.{Class};
 ghost use Rattle.records.specs.Pool.{kindAt};
 ghost use Rattle.records.specs.Lent.{lent, before, after};
 ghost use Rattle.records.specs.Calls.{admitOf, leaves};
-ghost use Rattle.hints.specs.Hints.{Cuts, Marks, Cleared, Masked, Written, Blank, Asked, Noted, Front, Took, marked, taking, giving, Held, Gave};
+ghost use Rattle.hints.specs.Hints.{Zeros, Cuts, Marks, started, Blank, Noted, Front, Took, marked, taking, giving};
 
 // The numbers of a row: words of marks from 0 on, tops, masks of the slot words, the class's numbers.
 pub const TOP: usize = 128;
@@ -107,42 +106,8 @@ pub fn take(
     0
 }
 
-// The slot at byte `off` of the run at page g, of the class whose row is lent, is given back: 0, or the refusal's number. Behind the last
-// slot all bits are 0, so that the count is asked for only there.
-fn give_at(
-    bits: &[u64],
-    words: &mut [u32],
-    slots: &mut [u64],
-    row: &mut [u64],
-    opens: &mut [u8],
-    g: usize,
-    off: usize,
-) -> u64
-    requires { ⌜ Held (lent bits words slots) (now row) (now opens) g off ⌝ }
-    ensures { λ r. ⌜ ((h : Held (before bits words slots) (now (row .entry)) (now (opens .entry)) g off)
-        → Gave h r (after bits words slots) (now (row .exit)) (now (opens .exit))) ⌝ }
-{
-    let s = (off * (row[SHARE] as usize)) / 4294967296;
-    if s * (row[SIZE] as usize) != off {
-        return NO_BLOCK;
-    }
-    let k = s / 64;
-    let i = 8 * g + k;
-    let bit = 1 << (s % 64);
-    let w = slots[i];
-    if (w & bit) == 0 {
-        if (row[COUNT] as usize) <= s {
-            return NO_BLOCK;
-        }
-        return FREE_SLOT;
-    }
-    blocks::free_bit(bits, words, slots, i, bit);
-    opens[g] = opens[g] | (1 << k);
-    set_mark(row, g);
-    0
-}
-
-// What starts at byte `off` of the run of class b at page g is given back.
+// What starts at byte `off` of the run of class b at page g is given back: 0, or the refusal's number. Behind the last slot all bits are 0, so
+// that the count is asked for only there.
 pub fn give(
     c: u64,
     bits: &[u64],
@@ -162,8 +127,25 @@ pub fn give(
     ensures marks { λ r. ⌜ Marks (512 * c) (after bits words slots) (now (rows .exit)) (now (opens .exit)) ⌝ }
 {
     let from = ROW * b;
+    let s = (off * (rows[from + SHARE] as usize)) / 4294967296;
+    if s * (rows[from + SIZE] as usize) != off {
+        return NO_BLOCK;
+    }
+    let k = s / 64;
+    let i = 8 * g + k;
+    let bit = 1 << (s % 64);
+    let w = slots[i];
+    if (w & bit) == 0 {
+        if (rows[from + COUNT] as usize) <= s {
+            return NO_BLOCK;
+        }
+        return FREE_SLOT;
+    }
+    blocks::free_bit(bits, words, slots, i, bit);
+    opens[g] = opens[g] | (1 << k);
     let to = from + ROW;
-    give_at(bits, words, slots, &mut rows[from..to], opens, g, off)
+    set_mark(&mut rows[from..to], g);
+    0
 }
 
 // The run at page g has a free slot, or none.
@@ -176,25 +158,7 @@ fn put_mark(row: &mut [u64], g: usize, v: bool)
     bitrow::put_bit(row, 8192 + g / 64, w != 0);
 }
 
-// Which slot words of the run at page g, of the class whose row is lent, have a free slot, as a byte.
-fn open_words(slots: &[u64], row: &[u64], g: usize) -> u64
-    requires long { ⌜ 8 * g + 8 ≤ length (now slots) ⌝ }
-    requires row { ⌜ length (now row) ≡ 144 ⌝ }
-    requires low { ⌜ g < 8192 ⌝ }
-    ensures { λ r. ⌜ Asked (now (slots .entry)) (now (row .entry)) g 8 r ⌝ }
-{
-    let mut o: u64 = 0;
-    let mut k = 0;
-    while k < 8 {
-        if slots[8 * g + k] != row[MASK + k] {
-            o = o | (1 << k);
-        }
-        k += 1;
-    }
-    o
-}
-
-// The run of class b at page g is looked at anew.
+// The run of class b at page g is looked at anew: a slot word that is not the mask of its slots has a free one.
 pub fn note(
     c: u64,
     bits: &[u64],
@@ -212,9 +176,16 @@ pub fn note(
     ensures { λ _. ⌜ Noted (before bits words slots) b g (now (rows .entry)) (now (opens .entry)) (now (rows .exit)) (now (opens .exit)) ⌝ }
 {
     let from = ROW * b;
-    let to = from + ROW;
-    let o = open_words(slots, &rows[from..to], g);
+    let mut o: u64 = 0;
+    let mut k = 0;
+    while k < 8 {
+        if slots[8 * g + k] != rows[from + MASK + k] {
+            o = o | (1 << k);
+        }
+        k += 1;
+    }
     opens[g] = o as u8;
+    let to = from + ROW;
     put_mark(&mut rows[from..to], g, o != 0);
 }
 
@@ -250,7 +221,7 @@ pub fn build(c: u64, bits: &[u64], words: &[u32], slots: &[u64], rows: &mut [u64
     requires wide { ⌜ length (now opens) ≡ 8192 ⌝ }
     ensures { λ _. ⌜ Marks (512 * c) (before bits words slots) (now (rows .exit)) (now (opens .exit)) ⌝ }
 {
-    cut_rows(rows);
+    start_rows(rows);
     let n = 512 * (c as usize);
     let mut g = 0;
     while g < n {
@@ -264,7 +235,7 @@ pub fn build(c: u64, bits: &[u64], words: &[u32], slots: &[u64], rows: &mut [u64
 // All numbers get 0.
 fn clear(rows: &mut [u64])
     requires { ⌜ length (now rows) ≡ 4320 ⌝ }
-    ensures { λ _. ⌜ Cleared (now (rows .exit)) 4320 ⌝ }
+    ensures { λ _. ⌜ Zeros (now (rows .exit)) 4320 ⌝ }
 {
     let mut i = 0;
     while i < ROWS {
@@ -273,57 +244,44 @@ fn clear(rows: &mut [u64])
     }
 }
 
-// The mask of the slots that word k of a run of n slots has.
-fn mask_of(n: usize, k: usize) -> u64
-    requires { ⌜ (n ≤ 512) × (k < 8) ⌝ }
-    ensures { λ r. ⌜ r ≡ maskOf 0 (min 64 (n - 64 * k)) ⌝ }
+// The number at place j, from the masks on, of the row of class b, whose runs have n slots of so many bytes.
+fn number_of(b: usize, bytes: u64, n: usize, j: usize) -> u64
+    requires class { ⌜ b < 30 ⌝ }
+    requires bytes { ⌜ bytes ≡ size b ⌝ }
+    requires count { ⌜ n ≡ slots b ⌝ }
+    requires place { ⌜ 130 ≤ j ⌝ }
+    ensures { λ r. ⌜ r ≡ started b j ⌝ }
 {
-    if 64 * k + 64 <= n {
-        return u64::MAX;
+    if j < SIZE {
+        let from = 64 * (j - MASK);
+        if n <= from {
+            return 0;
+        }
+        return u64::MAX >> (64 - bitrow::least(64, n - from));
     }
-    if n <= 64 * k {
-        return 0;
+    if j == COUNT {
+        return widths::wide64(n);
     }
-    u64::MAX >> (64 * k + 64 - n)
+    if j == SHARE {
+        return 4294967295 / bytes + 1;
+    }
+    bytes
 }
 
-// The masks of the eight slot words of a run of n slots.
-fn cut_masks(row: &mut [u64], n: usize)
-    requires { ⌜ (length (now row) ≡ 144) × (n ≤ 512) ⌝ }
-    ensures { λ _. ⌜ Masked (now (row .entry)) (now (row .exit)) n 8 ⌝ }
-{
-    let mut k = 0;
-    while k < 8 {
-        row[MASK + k] = mask_of(n, k);
-        k += 1;
-    }
-}
-
-// The numbers of class b.
-fn cut_row(row: &mut [u64], b: usize)
-    requires { ⌜ (length (now row) ≡ 144) × (b < 30) ⌝ }
-    ensures { λ _. ⌜ Written b (now (row .entry)) (now (row .exit)) ⌝ }
-{
-    let cut = classes::class_row(b);
-    let n = widths::wide16(cut.slots);
-    let size = widths::wide64(widths::wide16(cut.size));
-    cut_masks(row, n);
-    row[SIZE] = size;
-    row[COUNT] = widths::wide64(n);
-    row[SHARE] = 4294967295 / size + 1;
-}
-
-// The numbers of all classes, and no mark.
-fn cut_rows(rows: &mut [u64])
+// The numbers of all classes, and no mark. The rows of the classes are copied once, since a constant is written out at each read.
+fn start_rows(rows: &mut [u64])
     requires { ⌜ length (now rows) ≡ 4320 ⌝ }
     ensures { λ _. ⌜ Blank (now (rows .exit)) ⌝ }
 {
     clear(rows);
-    let mut b = 0;
-    while b < 30 {
-        let from = ROW * b;
-        let to = from + ROW;
-        cut_row(&mut rows[from..to], b);
-        b += 1;
+    let table = classes::class_rows();
+    let mut i = 0;
+    while i < 420 {
+        let b = i / 14;
+        let j = MASK + i % 14;
+        let bytes = widths::wide64(widths::wide16(table[b].size));
+        let n = widths::wide16(table[b].slots);
+        rows[ROW * b + j] = number_of(b, bytes, n, j);
+        i += 1;
     }
 }

@@ -141,7 +141,7 @@ module _ (c : ℕ) (p : Pool) (s : sound c p ≡ true) where
       go (At g) e = let r : n ≡ suc (n - 1) = omega arith in subst (PagesFree c p g) r (gap-free n g a e)
       go Nothing e = omega arith
 
-  class-ok : (b : ℕ) → b < 30 → PlanOk c p (planClass c (p .bits) b)
+  pub class-ok : (b : ℕ) → b < 30 → PlanOk c p (planClass c (p .bits) b)
   unfolding planClass
   class-ok b l = go (findPages c (p .bits) (pages b)) refl
     where

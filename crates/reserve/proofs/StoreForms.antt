@@ -1,7 +1,7 @@
 -- The stores of a reserve, as the code makes them. Assumes nothing.
 use mathlib.Core.Path.{_≡_, sym, ap, _∙_, subst}
 use mathlib.Core.Bool.{false}
-use Prim.Native.Nat.{ℕ, _+_, _-_, _<_}
+use Prim.Native.Nat.{ℕ, suc, _+_, _-_, _<_}
 use native.Mathlib.Omega.{arith}
 use lib.ListN.{getD}
 use Rattle.classes.proofs.ClassLaws.{any-row}
@@ -9,8 +9,9 @@ use Rattle.records.specs.declared.Kind.the-variants.{Class}
 use Rattle.records.specs.Kinds.{wordsOf}
 use Rattle.records.specs.Pool.{Pool}
 use Rattle.records.proofs.WordLaws.{page-word}
+use Rattle.records.proofs.AdmitLaws.{Shape}
 use Rattle.blocks.specs.Blocks.{IsSlot}
-use Rattle.blocks.specs.Stores.{putRun, putSlot}
+use Rattle.blocks.specs.Stores.{putRun, putSlot, LargeRoom}
 use Rattle.reserve.specs.declared.Plan.{Plan}
 use Rattle.reserve.specs.declared.Plan.the-variants.{NewClass}
 use Rattle.reserve.specs.Reserve.{perform}
@@ -26,6 +27,12 @@ class-taken p g b e f = f ∙ ap (λ (x : Pool). putSlot 1 x g 0) e
 -- free pages have the word 0
 pub free-words : {c : ℕ} {p : Pool} {g n : ℕ} → PagesFree c p g n → (i : ℕ) → g < i → i < g + n → getD (p .words) i 0 ≡ 0
 free-words {p = p} f i a b = page-word p i (f .clear i (omega arith) b)
+
+-- and hold a large run
+pub large-room : {c : ℕ} {p : Pool} {g k : ℕ} → Shape c p → PagesFree c p g (suc k) → LargeRoom g k (p .bits) (p .words)
+large-room h r =
+    let i = r .inside in let f = r .few in
+    record { few = omega arith; low = omega arith; bit = omega arith; word = omega arith; zero = free-words r }
 
 pub slot-few : {c : ℕ} {p : Pool} {g b s : ℕ} → IsSlot c p g b s false → s < 512
 slot-few {b = b} f = let a = any-row b .slots-most in let h = f .slot in omega arith

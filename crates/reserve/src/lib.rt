@@ -197,7 +197,7 @@ pub fn is_full(x: Plan) -> bool
 }
 
 // What a reserve of n bytes will do where no slot of its class is free, by the page bits alone.
-pub fn plan_pages(c: u64, bits: &[u64], n: u64) -> Plan
+fn plan_pages(c: u64, bits: &[u64], n: u64) -> Plan
     requires long { ⌜ 8 * c ≤ length (now bits) ⌝ }
     requires few { ⌜ c ≤ 16 ⌝ }
     ensures { λ r. ⌜ r ≡ planPages c (now (bits .entry)) n ⌝ }

@@ -1,5 +1,5 @@
 -- The definitions as the code reaches them, one law a way out. Assumes nothing.
-use mathlib.Core.Path.{_≡_, refl, sym, ap, ap₂, _∙_, subst}
+use mathlib.Core.Path.{_≡_, refl, sym, ap, ap₂, _∙_, subst, subst⁻¹}
 use mathlib.Core.Logic.{_≢_}
 use mathlib.Core.Bool.{Bool, true, false, cond, _&&_}
 use mathlib.Core.List.{List}
@@ -18,20 +18,20 @@ use Rattle.records.specs.Calls.{admitOf, Left, leaves}
 use Rattle.records.proofs.Flags.{cond-eq, cond-ne, cond-lt, cond-nlt, cond-le, cond-nle}
 use Rattle.records.proofs.RunLaws.{class-at-low}
 use Rattle.records.proofs.AdmitLaws.{admitted, shaped-lengths}
-use Rattle.blocks.specs.Blocks.{IsLarge}
+use Rattle.blocks.specs.Blocks.{Block, block, IsLarge, live, Ins}
 use Rattle.blocks.specs.Stores.{putRun, LargeRoom, Good}
 use Rattle.blocks.proofs.StoreLaws.{run-fit}
 use Rattle.blocks.proofs.KeepLaws.{admit-good}
 use Rattle.reserve.specs.Reserve.{serve, reserveOf}
 use Rattle.reserve.specs.Plans.{PagesFree}
 use Rattle.reserve.proofs.ReadyLaws.{serve-kept, reserve-serve, reserve-gains}
-use Rattle.reserve.proofs.StoreForms.{free-words}
+use Rattle.reserve.proofs.StoreForms.{large-room}
 use Rattle.reserve.specs.declared.Reserved.{Reserved}
 use Rattle.release.specs.declared.Spot.{Spot}
 use Rattle.release.specs.declared.Spot.the-variants.{Nowhere, Run, Slot}
 use Rattle.release.specs.Release.{spot, give, releaseOf}
 use Rattle.release.proofs.GiveLaws.{There, there, large-ends, large-zeros}
-use Rattle.release.proofs.MeanLaws.{release-give}
+use Rattle.release.proofs.MeanLaws.{block-at, release-give}
 use Rattle.resize.specs.declared.Change.{Change}
 use Rattle.resize.specs.declared.Change.the-variants.{Refuse, Stay, Recut, Move}
 use Rattle.resize.specs.Resize.{canGrow, fitPages, fitRun, fitSlot, change, recut, refused, kept, moved, done, resize}
@@ -41,7 +41,7 @@ use Rattle.resize.specs.declared.Settled.{Settled}
 use Rattle.resize.specs.declared.Settled.the-variants.{Over, Moving}
 use Rattle.resize.specs.Settle.{SpotLow, settled, Tells, over, moving}
 use Rattle.resize.proofs.ChangeLaws.{large-inside, ChangeOk, change-ok}
-use Rattle.resize.proofs.MeanLaws.{moving-by}
+use Rattle.resize.proofs.MeanLaws.{moving-by, moving-frees}
 
 -- ---- a large run
 
@@ -164,9 +164,7 @@ pub pages-room : (c : ℕ) (p : Pool) → admitOf c p ≡ 0 → (g k : ℕ) {j :
     → {w : Pool} → w ≡ putRun 0 p g (zeros (suc k)) → LargeRoom g j (w .bits) (w .words)
 pages-room c p ok g k {j} f e =
     subst (λ (u : Pool). LargeRoom g j (u .bits) (u .words)) (sym e)
-    (let h = shaped-lengths c _ _ _ (sym (run-fit c 0 p g (zeros (suc k))) ∙ admit-good c p ok .shape) in
-    let i = f .inside in let l = f .few in
-    record { few = omega arith; low = omega arith; bit = omega arith; word = omega arith; zero = free-words f })
+    (large-room (shaped-lengths c _ _ _ (sym (run-fit c 0 p g (zeros (suc k))) ∙ admit-good c p ok .shape)) f)
 
 pub recut-as : (p : Pool) (g k j : ℕ) {w u : Pool} → w ≡ putRun 0 p g (zeros (suc k)) → u ≡ putRun 1 w g (wordsOf (Large j)) → u ≡ recut p g k j
 unfolding recut
@@ -230,6 +228,15 @@ module _ (c : ℕ) (p : Pool) (q n : ℕ) {x : Spot} (s : x ≡ spot c p q) {w :
       go : (y : Change) → w ≡ settled p y → Tells c p q n y (Moving z) → w ≡ p
       go y f moving = f
 
+  pub still-live : Good c p → {z : ℕ} → t ≡ Moving z → (k : List Block) × Ins (block q z) k (live c p)
+  still-live h {z} m = go (change (p .bits) x n) (change-ok c p h n q x here) (subst (Tells c p q n (change (p .bits) x n)) m told)
+    where
+      here : There c p q x
+      here = subst⁻¹ (There c p q) s (there c p q)
+
+      go : (y : Change) → ChangeOk c p x n y → Tells c p q n y (Moving z) → (k : List Block) × Ins (block q z) k (live c p)
+      go y k moving = (_, block-at c p h q x here z k .less)
+
   pub resize-moves : {z : ℕ} → t ≡ Moving z → {r : Left Resized Pool} → r ≡ Resize.moving c w q z n → r ≡ resize c p q n
   unfolding resize done
   resize-moves {z} m {r} f =
@@ -260,6 +267,12 @@ module _ (c : ℕ) (p : Pool) (ok : admitOf c p ≡ 0) (n : ℕ) {r : Reserved} 
   module _ (e : r .refusal ≡ 0) where
     pub move-good : Good c u
     move-good = subst (Good c) (ap (λ (x : Left Reserved Pool). x .left) (sym reserved)) (reserve-gains c p (admit-good c p ok) n (number e) .good)
+
+    -- the block that was there is live until it is given back
+    pub move-frees : (q z : ℕ) {k : List Block} → Ins (block q z) k (live c p) → give c u q .answer ≡ 0
+    move-frees q z i =
+        ap (λ (x : Left ℕ Pool). x .answer) (sym (release-give c u move-good q))
+        ∙ ap (λ (x : Left Reserved Pool). releaseOf c (x .left) q .answer) reserved ∙ moving-frees c p q z n (admit-good c p ok) i (number e)
 
     pub move-served : (q z : ℕ) {v : Pool} {b : ℕ} → leaves b v ≡ give c u q → {a : Resized} → a ≡ moved r z n
         → leaves a v ≡ Resize.moving c p q z n

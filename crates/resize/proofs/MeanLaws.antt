@@ -55,7 +55,14 @@ module _ (c : ℕ) (p : Pool) (q z n : ℕ) where
       go zero f = let a : _≡_ {A = ℕ} 2 1 = ap (λ (x : Left Resized Pool). x .answer .how) (sym (moving-by f)) ∙ e in omega arith
       go (suc m) f = let a : _≡_ {A = ℕ} 0 1 = ap (λ (x : Left Resized Pool). x .answer .how) (sym (moving-by f)) ∙ e in omega arith
 
-  -- the block is live while the new one is reserved, and so it is the one that is released
+  -- the block is live while the new one is reserved
+  pub moving-frees : Good c p → {k : List Block} → Ins (block q z) k (live c p) → reserveOf c p n .answer .refusal ≡ 0
+      → releaseOf c (reserveOf c p n .left) q .answer ≡ 0
+  moving-frees h i e =
+      let g = reserve-gains c p h n e in
+      live-served c (reserveOf c p n .left) (g .good) (live-is c (reserveOf c p n .left) (ins-still (g .more) (ins-in i)))
+
+  -- and so it is the one that is released
   pub moving-swaps : Good c p → {k : List Block} → Ins (block q z) k (live c p) → moving c p q z n .answer .refusal ≡ 0
       → Swaps c p (moving c p q z n .left) (block q z) (block (moving c p q z n .answer .place) (moving c p q z n .answer .size))
   moving-swaps h i e = go (reserveOf c p n .answer .refusal) refl

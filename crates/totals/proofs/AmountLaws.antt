@@ -6,7 +6,7 @@ use Prim.Native.Nat.{ℕ, zero, suc, _+_, _*_, _≤_, _<_}
 use native.Mathlib.Nat.{zero-add, mul-le-mul-right}
 use native.Mathlib.Omega.{arith}
 use lib.Dec.{eqb}
-use lib.ListN.{length, getD, length-append}
+use lib.ListN.{length, length-append}
 use borrow.Author.Tests.{eq-eqb, ne-eqb}
 use types.Run.{OneOf, miss}
 use denote.Enum.Declared.{tagOf}
@@ -14,7 +14,7 @@ use Rattle.bitrow.specs.Row.{digit, bitAt, isSet, countBits}
 use Rattle.bitrow.proofs.Rows.{bit-at-le}
 use Rattle.bitrow.proofs.Counts.{count-le}
 use Rattle.classes.specs.declared.Row.{Row}
-use Rattle.classes.specs.Classes.{rowOf, rows, rowAt, size, slots}
+use Rattle.classes.specs.Classes.{rowAt, size, slots}
 use Rattle.classes.proofs.ClassLaws.{any-row, size-read, slots-read}
 use Rattle.records.specs.declared.Kind.{Kind}
 use Rattle.records.specs.declared.Kind.the-variants.{Edge, Free, Damaged, Large, Class, Inner}
@@ -156,11 +156,6 @@ module _ (p : Pool) (g : ℕ) where
       → t ≡ amountOf (pageBlocks p g)
   unfolding slotAt
   amount-page {k} e f = f ∙ ap amountOf (kind-blocks p g k (sym e))
-
--- the row of class b, as it was read
-pub row-read : (d : Row) (t : List Row) (b i : ℕ) → t ≡ rows → d ≡ rowOf 0 0 0 → i ≡ b → getD t i d ≡ rowAt b
-unfolding rowAt
-row-read d t b i e z h = cc
 
 -- ---- the pages one after the other
 

@@ -17,9 +17,7 @@ abbrev μ-loop : tie.MeasureT-loop
 μ-loop bits k n to i₀ s₀ i s = 8 - i
 
 returns : tie.Need-returns Inv-loop μ-loop
-returns c =
-    let start = c .before .before .before .args in
-    chunk-full (start .bits .now) (start .k) (start .n) _ (start .before) (omega arith) (c .before .first-free .ensures) (c .if1 .taken)
+returns c = chunk-full _ _ _ _ _ (omega arith) (c .before .first-free .ensures) (c .if1 .taken)
 
 loop-holds : tie.Need-loop-holds Inv-loop μ-loop
 loop-holds c = (refl, chunk-start (omega arith))

@@ -1,13 +1,13 @@
 -- `gaps::best_in_word` meets its contract. The loop's invariant: the search has come to a place of the word, gives from there what it gave
 -- from q on, and the edges are those from there on.
 -- Assumes nothing.
-use mathlib.Core.Path.{refl}
 use Prim.Native.Nat.{_-_}
 use native.Mathlib.Omega.{arith}
 use borrow.Author.Needs.{needs}
 use borrow.Author.Tests.{eqb-true, not-false}
 use lib.Bits.{and-le-r}
 use lib.Count.{trailing-le}
+use Rattle.bitrow.proofs.Words.{one-lowest}
 use Rattle.gaps.proofs.Turns.{Within, word-start, word-turn, word-done, word-settled}
 use Rattle.gaps.proofs.best_in_word.Statement.{statement}
 use Rattle.gaps.proofs.best_in_word.Tie as tie
@@ -35,7 +35,7 @@ loop-less c = let edges = c .before .before .before .before .loop .edges in omeg
 loop-again : tie.Need-loop-again Inv-loop μ-loop
 loop-again c =
     let (room, (some, ready)) = c .before .before .before .before .before .before .before .pre in
-    word-turn room (c .before .before .before .before .loop .inv) some (omega arith) refl (c .at-edge .ensures)
+    word-turn room (c .before .before .before .before .loop .inv) some (omega arith) (one-lowest _) (c .at-edge .ensures)
 
 returns : tie.Need-returns Inv-loop μ-loop
 returns c =

@@ -24,7 +24,7 @@ mul-n c =
 loop-holds : tie.Need-loop-holds Inv-loop μ-loop
 loop-holds c =
     let (sound, (long, wide)) = c .before .before .before .before .before .before .before .before .before .pre in
-    (omega arith, refl, c .before .before .cut-rows .ensures _ _ wide)
+    (omega arith, refl, c .before .before .start-rows .ensures _ _ wide)
 
 note-page-requires : tie.Need-note-page-requires Inv-loop μ-loop
 note-page-requires c κs =

@@ -1,5 +1,5 @@
 -- `hints::put_mark` meets its contract. Assumes nothing.
-use Rattle.hints.proofs.NoteLaws.{mark-put}
+use Rattle.hints.proofs.RowLaws.{mark-put}
 use Prim.Native.Nat.{_-_}
 use borrow.Author.Needs.{needs}
 use Rattle.hints.proofs.put_mark.Statement.{statement}

@@ -7,24 +7,32 @@ use Prim.Native.Nat.{_+_, _*_}
 use lib.Dec.{eqb}
 use lib.ListN.{getD}
 use Rattle.records.specs.Lent.{lent}
-use Rattle.hints.proofs.TakeLaws.{Aimed, aimed, page-inside, top-inside, took}
+use Rattle.hints.specs.Hints.{Front}
+use Rattle.hints.proofs.RowLaws.{top-inside}
+use Rattle.hints.proofs.PartLaws.{part-cut}
+use Rattle.hints.proofs.TakeLaws.{Reached, reached, Aimed, aimed, took}
 use Rattle.hints.proofs.take_at.Statement.{statement}
 use Rattle.hints.proofs.take_at.Tie as tie
 
-abbrev start : tie.After-first-one2 → tie.Start
-start c = c .before .before .before .before .before .before .before .before .before .before .before
+abbrev Asked : tie.Start → Type 0
+Asked s = Front (lent (s .args .bits) (s .args .words) (s .args .slots)) (s .args .row .now) (s .args .opens .now) (s .args .j) (s .args .top)
 
--- the slot word and the bit of its byte are found
-near : (c : tie.After-first-one2) → Aimed (lent (start c .args .bits) (start c .args .words) (start c .args .slots)) (start c .args .row .now)
-    (start c .args .opens .now) (start c .args .j) (c .before .before .before .before .first-one .result) (c .first-one2 .result) (c .before .wide64 .result)
-near c =
-    aimed (start c .pre) _ _ _ (c .before .before .before .before .before .slice-known5 .given (start c .args .j) .fits) (omega arith) (c .before .before .before .before .first-one .ensures)
-    (c .before .wide64 .ensures ∙ c .before .before .wide8 .ensures) (c .first-one2 .ensures)
+abbrev start : tie.After-first-one → tie.Start
+start c = c .before .before .before .before .before .before .before
+
+-- the page is found
+page : (c : tie.After-first-one) (f : Asked (start c)) → Reached f (c .first-one .result)
+page c f = reached f _ (omega arith) (c .before .slice-known5 .given (start c .args .j) .fits) (c .first-one .ensures)
+
+-- its slot word, and the bit of its byte
+word : (c : tie.After-first-one2) (f : Asked (start (c .before .before .before .before))) → Aimed f (c .before .before .before .before .first-one .result) (c .first-one2 .result) (c .before .wide64 .result)
+word c f = aimed f _ (page (c .before .before .before .before) f) (c .before .wide64 .ensures ∙ c .before .before .wide8 .ensures) (c .first-one2 .ensures)
+
+near : (c : tie.After-first-one2) → Aimed (start (c .before .before .before .before) .pre) (c .before .before .before .before .first-one .result) (c .first-one2 .result) (c .before .wide64 .result)
+near c = word c (start (c .before .before .before .before) .pre)
 
 slice-read-wide8 : tie.Need-slice-read-wide8
-slice-read-wide8 c =
-    let found = c .before in let start = c .before .before .before .before .before .before .before .before in
-    page-inside (start .pre) _ (found .before .slice-known5 .given (start .args .j) .fits) (found .first-one .ensures) (omega arith)
+slice-read-wide8 c = page (c .before) (start (c .before) .pre) .page
 
 slice-read-w : tie.Need-slice-read-w
 slice-read-w c = near (c .before) .word
@@ -41,28 +49,25 @@ without-lowest-requires c κs = near (c .before .before .before .before .before 
 cast-opens : tie.Need-cast-opens
 cast-opens c =
     let aim = c .before .before .before .before .before .before .before .before .before .before in
-    let full = eqb (c .before .before .before .before .before .before .fill-word .result) (getD (start aim .args .row .now) (130 + aim .first-one2 .result) 0) in
+    let full = eqb (c .before .before .before .before .before .before .fill-word .result) (getD (start (aim .before .before .before .before) .args .row .now) (130 + aim .first-one2 .result) 0) in
     record { fits = near aim .byte (not full) _ (c .without-lowest .ensures) }
 
 slice-write-opens : tie.Need-slice-write-opens
-slice-write-opens c = near (c .before .before .before .before .before .before .before .before .before .before) .page
+slice-write-opens c = near (c .before .before .before .before .before .before .before .before .before .before) .at .page
 
 without-lowest-requires-2 : tie.Need-without-lowest-requires-2
-without-lowest-requires-2 c κs = near (c .before .before .before .before .before .before .before .before .before .before) .front
+without-lowest-requires-2 c κs = near (c .before .before .before .before .before .before .before .before .before .before) .at .front
 
 slice-write-row-2 : tie.Need-slice-write-row-2
 slice-write-row-2 c =
     let start = c .before .before .before .before .before .before .before .before .before .before .before .before .before .before .before .before .before .before .before .before .before .before .before in
-    top-inside (start .args .row .now) _ _ (start .pre .cut .long) (start .pre .inside)
+    top-inside (start .args .row .now) _ _ (part-cut (start .pre .part) .long) (start .pre .inside)
 
 returns : tie.Need-returns
 returns c f =
-    let aim = c .before .before .before .before .before .before .before .before .before .before .before .before .before in let j = start aim .args .j in
-    let t = c .before .before .before .before .before .before .before .before .before .before .before .before .before .before .before .before .before .first-one .result in let k = aim .first-one2 .result in
-    took f t k _ (c .before .before .before .before .before .before .before .before .before .before .before .before .before .before .before .before .before .before .slice-known5 .given j .fits) (omega arith) (c .before .before .before .before .before .before .before .before .before .before .before .before .before .before .before .before .before .first-one .ensures)
-    (aim .before .wide64 .ensures ∙ aim .before .before .wide8 .ensures) (aim .first-one2 .ensures) _ _ _ _ _ _
-    (c .before .before .before .before .before .before .before .before .before .before .before .before .slice-known7 .given (8 * (64 * j + t) + k) .fits) (c .first-zero .ensures)
-    (c .before .before .before .before .before .before .before .before .before .fill-word .ensures) (c .before .before .before .without-lowest .ensures) (c .before .before .without-lowest2 .ensures) (c .before .without-lowest3 .ensures)
+    let aim = c .before .before .before .before .before .before .before .before .before .before .before .before .before in let first = aim .before .before .before .before in let j = start first .args .j in
+    took f (first .first-one .result) (word aim f) _ _ _ _ _ _ (c .before .before .before .before .before .before .before .before .before .before .before .before .slice-known7 .given (8 * (64 * j + first .first-one .result) + aim .first-one2 .result) .fits)
+    (c .first-zero .ensures) (c .before .before .before .before .before .before .before .before .before .fill-word .ensures) (c .before .before .before .without-lowest .ensures) (c .before .before .without-lowest2 .ensures) (c .before .without-lowest3 .ensures)
 
 pub take-at-spec : {M : Type 1} → statement M
 take-at-spec =

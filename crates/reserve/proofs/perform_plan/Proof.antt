@@ -7,7 +7,7 @@ use native.Mathlib.Omega.{arith}
 use Rattle.records.proofs.AdmitLaws.{admitted}
 use Rattle.blocks.specs.Blocks.{IsSlot}
 use Rattle.reserve.specs.Plans.{PagesFree}
-use Rattle.reserve.proofs.StoreForms.{ok-as, perform-as, slot-few, class-taken, free-words}
+use Rattle.reserve.proofs.StoreForms.{ok-as, perform-as, slot-few, class-taken, large-room}
 use Rattle.reserve.proofs.perform_plan.Statement.{statement}
 use Rattle.reserve.proofs.perform_plan.Tie as tie
 
@@ -50,9 +50,7 @@ returns-3 c =
 put-large-requires : tie.Need-put-large-requires
 put-large-requires c κs =
     let matched = c .before .before .before .before in let start = matched .before .before .before .before .before in
-    let h = admitted _ _ (start .pre .0) .shape in
-    let r : PagesFree _ _ _ _ = ok-as _ _ (matched .x4 .given .1) (start .pre .1) in let i = r .inside in let f = r .few in
-    record { few = omega arith; low = omega arith; bit = omega arith; word = omega arith; zero = free-words r }
+    large-room (admitted _ _ (start .pre .0) .shape) (ok-as _ _ (matched .x4 .given .1) (start .pre .1))
 
 returns-4 : tie.Need-returns-4
 returns-4 c =

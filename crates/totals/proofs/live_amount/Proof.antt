@@ -3,9 +3,10 @@ use borrow.Author.Needs.{needs}
 use mathlib.Core.Path.{_≡_, refl}
 use Prim.Native.Nat.{_-_, _*_, _≤_}
 use native.Mathlib.Omega.{arith}
+use Rattle.classes.proofs.ClassLaws.{row-read}
 use Rattle.records.specs.Pool.{pool}
 use Rattle.records.proofs.AdmitLaws.{admitted}
-use Rattle.totals.proofs.AmountLaws.{told-few, row-read, Counted, counted-start, counted-on, counted-done, bounded}
+use Rattle.totals.proofs.AmountLaws.{told-few, Counted, counted-start, counted-on, counted-done, bounded}
 use Rattle.totals.proofs.live_amount.Statement.{statement}
 use Rattle.totals.proofs.live_amount.Tie as tie
 
