@@ -31,7 +31,7 @@ pub fn first_one(w: u64) -> u32
 }
 
 // The place of the lowest bit v of a word, 64 where it has none.
-pub fn first_bit(w: u64, v: bool) -> u32
+fn first_bit(w: u64, v: bool) -> u32
     ensures { λ r. ⌜ Lowest 64 w (digit v) r ⌝ }
 {
     if v { first_one(w) } else { first_zero(w) }

@@ -57,7 +57,7 @@ module _ (c : ℕ) (p : Pool) (h : Good c p) (q n : ℕ) where
     pages-by : (j : ℕ) → TakesRun n (suc j) → {y : Change} → y ≡ fitPages (p .bits) g k j → resizeOf c p q n ≡ done c p q n y
     pages-by j t e =
         resize-by (Run g k) (large-at c p h q g k r at)
-        (forms.run-fits (p .bits) n refl (t .most) (forms.run-large (p .bits) g k n (t .large) (e ∙ ap (fitPages (p .bits) g k) (sym (takes-is j t)))))
+        (forms.run-fits (p .bits) n refl (t .most) (forms.run-large (p .bits) g k n (t .large) refl (e ∙ ap (fitPages (p .bits) g k) (sym (takes-is j t)))))
 
     run-kept : TakesRun n (suc k) → resizeOf c p q n ≡ leaves (kept q (4096 * suc k)) p
     unfolding done

@@ -15,17 +15,17 @@ ghost use Rattle.records.specs.Calls.{admitOf, leaves};
 ghost use Rattle.hints.specs.Hints.{Zeros, Cuts, Marks, started, Blank, Noted, Front, Took, marked, taking, giving};
 
 // The numbers of a row: words of marks from 0 on, tops, masks of the slot words, the class's numbers.
-pub const TOP: usize = 128;
+const TOP: usize = 128;
 
-pub const MASK: usize = 130;
+const MASK: usize = 130;
 
-pub const SIZE: usize = 138;
+const SIZE: usize = 138;
 
-pub const COUNT: usize = 139;
+const COUNT: usize = 139;
 
-pub const SHARE: usize = 140;
+const SHARE: usize = 140;
 
-pub const ROW: usize = 144;
+const ROW: usize = 144;
 
 pub const ROWS: usize = 4320;
 
@@ -268,7 +268,7 @@ fn number_of(b: usize, bytes: u64, n: usize, j: usize) -> u64
     bytes
 }
 
-// The numbers of all classes, and no mark. The rows of the classes are copied once, since a constant is written out at each read.
+// The numbers of all classes, fourteen each, and no mark. The rows of the classes are copied once, since a constant is written out at each read.
 fn start_rows(rows: &mut [u64])
     requires { ⌜ length (now rows) ≡ 4320 ⌝ }
     ensures { λ _. ⌜ Blank (now (rows .exit)) ⌝ }

@@ -35,6 +35,9 @@ same-has : {p q : Pool} → SameRuns p q → (d i : ℕ) → hasSlot p d i ≡ h
 unfolding hasSlot
 same-has s d i = ap₂ (λ (t : Bool) (l : List ℕ). t && ltb (lowestFree l d i) (slots d)) (s .runs d i) (s .slots)
 
+pub same-self : {p : Pool} → SameRuns p p
+same-self = record { runs = λ d i. refl; slots = refl }
+
 pub same-next : {p q r : Pool} → SameRuns p q → SameRuns q r → SameRuns p r
 same-next x y = record { runs = λ d i. x .runs d i ∙ y .runs d i; slots = x .slots ∙ y .slots }
 

@@ -34,7 +34,7 @@ use Rattle.reserve.proofs.ReadyLaws.{room-here, ready-admit, ready-plan}
 use Rattle.sweep.specs.Sweep.{swept}
 use Rattle.hints.specs.Hints.{Cuts, Marks, SameBut, Noted, taking}
 use Rattle.marked.specs.Marked.{codeOf, carried, coded, SameRuns}
-use Rattle.marked.proofs.MarkLaws.{large-same, class-but}
+use Rattle.marked.proofs.MarkLaws.{same-self, large-same, class-but}
 
 -- ---- a plan is carried out
 
@@ -82,7 +82,7 @@ module _ (c : ℕ) (p : Pool) (ok : admitOf c p ≡ 0) (n : ℕ) (l : 3072 < n) 
   Ran w q = (leaves w q ≡ carried p (plan c p n)) × SameRuns p q
 
   refused : (r : ℕ) → Refuse r ≡ plan c p n → Ran r p
-  refused r e = (ap (carried p) e, record { runs = λ d i. refl; slots = refl })
+  refused r e = (ap (carried p) e, same-self)
 
   pub run-huge : 2093056 < n → Ran 3 p
   run-huge m = refused 3 (plan-large c p n _ l (large-huge c (p .bits) n m))

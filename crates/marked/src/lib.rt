@@ -24,7 +24,7 @@ fn reserve_run(c: u64, bits: &mut [u64], words: &mut [u32], slots: &[u64], n: u6
     if 2093056 < n {
         return TOO_BIG;
     }
-    let m = ((n + 4095) / 4096) as usize;
+    let m = reserve::pages_for(n);
     match gaps::find_pages(c as usize, bits, m) {
         gaps::Found::At(g) => {
             blocks::put_large(bits, words, slots, g, m - 1);

@@ -35,7 +35,7 @@ pub struct Sized {
 }
 
 // Byte off of a run of class b that starts at page g and is cut into `count` slots of so many bytes.
-pub fn slot_spot(slots: &[u64], g: usize, b: usize, off: usize, bytes: usize, count: usize) -> Spot
+fn slot_spot(slots: &[u64], g: usize, b: usize, off: usize, bytes: usize, count: usize) -> Spot
     requires low { ⌜ g < 8192 ⌝ }
     requires long { ⌜ 512 * g + 512 ≤ 64 * length (now slots) ⌝ }
     requires class { ⌜ b < 30 ⌝ }
@@ -57,7 +57,7 @@ pub fn slot_spot(slots: &[u64], g: usize, b: usize, off: usize, bytes: usize, co
 }
 
 // What the place q lies in.
-pub fn area_at(c: u64, bits: &[u64], words: &[u32], slots: &[u64], q: u64) -> Area
+fn area_at(c: u64, bits: &[u64], words: &[u32], slots: &[u64], q: u64) -> Area
     requires { ⌜ admitOf c (lent bits words slots) ≡ 0 ⌝ }
     ensures { λ r. ⌜ Leads c (before bits words slots) q r ⌝ }
 {
@@ -106,7 +106,7 @@ pub fn spot_at(c: u64, bits: &[u64], words: &[u32], slots: &[u64], q: u64) -> Sp
 }
 
 // Gives back what starts at a place, and answers 0 or the refusal.
-pub fn give_back(c: u64, bits: &mut [u64], words: &mut [u32], slots: &mut [u64], x: Spot) -> u64
+fn give_back(c: u64, bits: &mut [u64], words: &mut [u32], slots: &mut [u64], x: Spot) -> u64
     requires { ⌜ (admitOf c (lent bits words slots) ≡ 0) × (IsSpot c (lent bits words slots) x) ⌝ }
     ensures { λ r. ⌜ leaves r (after bits words slots) ≡ leaves (released x) (giveBack (before bits words slots) x) ⌝ }
 {

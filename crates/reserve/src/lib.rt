@@ -9,7 +9,7 @@ ghost use Rattle.records.specs.declared.Kind.the-variants.{Class};
 ghost use Rattle.records.specs.Kinds.{slotsOf};
 ghost use Rattle.records.specs.Lent.{lent, before, after};
 ghost use Rattle.records.specs.Calls.{admitOf, leaves};
-ghost use Rattle.reserve.specs.Reserve.{lowestFree, hasSlot, slotPage, planSlot, planClass, planRun, planLarge, plan, isFull, ready, perform, slotGiven, answer, serve, refused};
+ghost use Rattle.reserve.specs.Reserve.{lowestFree, hasSlot, slotPage, planSlot, planClass, planRun, pagesFor, planLarge, plan, isFull, ready, perform, slotGiven, answer, serve, refused};
 ghost use Rattle.reserve.specs.Plans.{PlanOk, PlanLow, PlanSize, planPages};
 
 // What a reserve will do: refuse with a number; take slot s of the run of class b at page g; start a run of class b at page g; start a
@@ -43,7 +43,7 @@ pub struct Reserved {
 }
 
 // The number of the lowest free slot of the run of class b at page g, which has n slots; n where none is free.
-pub fn lowest_free(slots: &[u64], g: usize, b: usize, n: usize) -> usize
+fn lowest_free(slots: &[u64], g: usize, b: usize, n: usize) -> usize
     requires low { ⌜ g < 8192 ⌝ }
     requires long { ⌜ 512 * g + 512 ≤ 64 * length (now slots) ⌝ }
     requires count { ⌜ n ≡ slotsOf (Class b) ⌝ }
@@ -113,7 +113,7 @@ fn plan_class(c: u64, bits: &[u64], b: usize) -> Plan
 }
 
 // A slot of class b: the lowest free one of the run at page g, of n slots; or, where g is behind the last page, one of a new run.
-pub fn plan_slot(
+fn plan_slot(
     c: u64,
     bits: &[u64],
     words: &[u32],
@@ -153,8 +153,16 @@ fn plan_run(c: u64, bits: &[u64], n: usize) -> Plan
     }
 }
 
+// The pages that hold n bytes.
+pub fn pages_for(n: u64) -> usize
+    requires { ⌜ n ≤ 4294967295 ⌝ }
+    ensures { λ r. ⌜ r ≡ pagesFor n ⌝ }
+{
+    ((n + 4095) / 4096) as usize
+}
+
 // A request of more bytes than a slot holds.
-pub fn plan_large(c: u64, bits: &[u64], n: u64) -> Plan
+fn plan_large(c: u64, bits: &[u64], n: u64) -> Plan
     requires long { ⌜ 8 * c ≤ length (now bits) ⌝ }
     requires few { ⌜ c ≤ 16 ⌝ }
     requires large { ⌜ 3072 < n ⌝ }
@@ -163,12 +171,11 @@ pub fn plan_large(c: u64, bits: &[u64], n: u64) -> Plan
     if 2093056 < n {
         return Plan::Refuse(TOO_BIG);
     }
-    let m = ((n + 4095) / 4096) as usize;
-    plan_run(c, bits, m)
+    plan_run(c, bits, pages_for(n))
 }
 
 // What a reserve of n bytes will do, on records that are sound.
-pub fn plan_for(c: u64, bits: &[u64], words: &[u32], slots: &[u64], n: u64) -> Plan
+fn plan_for(c: u64, bits: &[u64], words: &[u32], slots: &[u64], n: u64) -> Plan
     requires { ⌜ admitOf c (lent bits words slots) ≡ 0 ⌝ }
     ensures { λ r. ⌜ r ≡ plan c (before bits words slots) n ⌝ }
 {
@@ -274,7 +281,7 @@ pub fn refused(r: u64) -> Reserved
 }
 
 // Slot s of the run of class b at page g, of this size.
-pub fn slot_given(g: usize, b: usize, s: usize, bytes: u64) -> Reserved
+fn slot_given(g: usize, b: usize, s: usize, bytes: u64) -> Reserved
     requires { ⌜ ((g < 8192) × (b < 30) × (s < 512)) × (bytes ≡ size b) ⌝ }
     ensures { λ r. ⌜ r ≡ slotGiven g b s ⌝ }
 {
@@ -317,7 +324,7 @@ fn plan_size(x: Plan) -> u64
 }
 
 // What a plan answers, with the size of its slot.
-pub fn answer_of(x: Plan, bytes: u64) -> Reserved
+fn answer_of(x: Plan, bytes: u64) -> Reserved
     requires { ⌜ PlanLow x × PlanSize x bytes ⌝ }
     ensures { λ r. ⌜ r ≡ answer x ⌝ }
 {

@@ -3,7 +3,7 @@ use mathlib.Core.Path.{_≡_, refl, sym, ap, ap₂, _∙_, subst, subst⁻¹}
 use mathlib.Core.Logic.{_≢_}
 use mathlib.Core.Bool.{Bool, true, false, cond, _&&_}
 use mathlib.Core.List.{List}
-use Prim.Native.Nat.{ℕ, zero, suc, _+_, _-_, _*_, _/_, _%_, _≤_, _<_, min}
+use Prim.Native.Nat.{ℕ, zero, suc, _+_, _-_, _*_, _%_, _≤_, _<_, min}
 use native.Mathlib.Omega.{arith}
 use lib.Dec.{eqb}
 use lib.ListN.{length}
@@ -22,7 +22,7 @@ use Rattle.blocks.specs.Blocks.{Block, block, IsLarge, live, Ins}
 use Rattle.blocks.specs.Stores.{putRun, LargeRoom, Good}
 use Rattle.blocks.proofs.StoreLaws.{run-fit}
 use Rattle.blocks.proofs.KeepLaws.{admit-good}
-use Rattle.reserve.specs.Reserve.{serve, reserveOf}
+use Rattle.reserve.specs.Reserve.{pagesFor, serve, reserveOf}
 use Rattle.reserve.specs.Plans.{PagesFree}
 use Rattle.reserve.proofs.ReadyLaws.{serve-kept, reserve-serve, reserve-gains}
 use Rattle.reserve.proofs.StoreForms.{large-room}
@@ -88,9 +88,9 @@ module _ (bits : List ℕ) (g k n : ℕ) where
   unfolding fitRun
   run-small l {z} e = let d : 4096 * z ≡ 4096 * suc k = omega arith in ap Move d ∙ sym (cond-le n 3072 _ _ l)
 
-  pub run-large : 3072 < n → {x : Change} → x ≡ fitPages bits g k ((n + 4095) / 4096 - 1) → x ≡ fitRun bits g k n
+  pub run-large : 3072 < n → {m : ℕ} → m ≡ pagesFor n → {x : Change} → x ≡ fitPages bits g k (m - 1) → x ≡ fitRun bits g k n
   unfolding fitRun
-  run-large l e = e ∙ sym (cond-nle n 3072 _ _ l)
+  run-large l f e = e ∙ ap (λ (i : ℕ). fitPages bits g k (i - 1)) f ∙ sym (cond-nle n 3072 _ _ l)
 
 -- ---- a slot
 

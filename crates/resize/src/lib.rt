@@ -81,7 +81,7 @@ fn fit_run(bits: &[u64], g: usize, k: usize, n: u64) -> Change
     if n <= 3072 {
         return Change::Move(4096 * widths::wide64(k + 1));
     }
-    let m = ((n + 4095) / 4096) as usize;
+    let m = reserve::pages_for(n);
     fit_pages(bits, g, k, m - 1)
 }
 
@@ -151,7 +151,7 @@ fn kept(q: u64, z: u64) -> Resized
 }
 
 // What was reserved for n bytes, in place of a block of z bytes.
-pub fn moved(r: reserve::Reserved, z: u64, n: u64) -> Resized
+fn moved(r: reserve::Reserved, z: u64, n: u64) -> Resized
     ensures { λ x. ⌜ x ≡ moved r z n ⌝ }
 {
     Resized {

@@ -4,13 +4,12 @@ use Rattle.resize.proofs.Forms.{run-small, run-large}
 use borrow.Author.Needs.{needs}
 use Rattle.resize.proofs.fit_run.Statement.{statement}
 use Rattle.resize.proofs.fit_run.Tie as tie
-use Rattle.widths.proofs.wide64.Reads as wide64-reads
 
 returns : tie.Need-returns
 returns c = run-small _ _ _ _ (omega arith) (c .wide64 .ensures)
 
 returns-2 : tie.Need-returns-2
-returns-2 c = run-large _ _ _ _ (omega arith) (c .fit-pages .ensures)
+returns-2 c = run-large _ _ _ _ (omega arith) (c .before .pages-for .ensures) (c .fit-pages .ensures)
 
 pub fit-run-spec : {M : Type 1} → statement M
 fit-run-spec =
