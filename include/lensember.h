@@ -11,6 +11,19 @@
  * blocks lie, are the caller's alone: only their lengths are told. The library
  * keeps nothing between calls, allocates nothing and has no state of its own.
  *
+ * A pool is one value, struct lensember_pool, made on one piece of memory:
+ *
+ *   static LENSEMBER_POOL_MEMORY(2) records;
+ *   struct lensember_pool pool = lensember_pool_at(2, &records, sizeof records);
+ *   lensember_pool_fresh(&pool);
+ *   struct lensember_reserved row = lensember_pool_reserve(&pool, 24);
+ *
+ * Each call has two forms, of one description: lensember_pool_NAME on a pool,
+ * and lensember_NAME on its records as plain buffers. Whatever a later version
+ * keeps of a pool becomes a part of the pool: a program that makes its pools by
+ * lensember_pool_at compiles unchanged then. <lensember_arena.h> allocates from
+ * a pool by pointers.
+ *
  * The three buffers of a pool, each with one part a chunk, lengths counted in
  * elements:
  *
@@ -31,12 +44,30 @@
  * All else may be anything: any number, any length, any contents. Each call
  * ends and answers, and a refused call changes nothing; only a log that is
  * refused at one of its fields has done what the fields before it say.
+ *
+ * Threads. Calls on two pools may run in two threads at once. Of one pool only
+ * one call may run at a time: the caller locks. Calls that only read a pool may
+ * run side by side while none changes it.
+ *
+ * When LENSEMBER_DAMAGED is answered, something else has written into the
+ * records, a wild pointer or a failing memory, and no call says any more what
+ * lies where. Nothing was changed by the call. Write no block of that pool; put
+ * the records back, from a copy or by a replay of the pool's log, which gives
+ * the same places; see that lensember_check answers LENSEMBER_OK; and trust the
+ * bytes of the blocks only as far as a checksum of the caller's own goes, for
+ * who wrote into the records may have written there too.
  */
 #ifndef LENSEMBER_H
 #define LENSEMBER_H
 
 #include <stddef.h>
 #include <stdint.h>
+
+/* The version of this header and of the archive that belongs to it. */
+#define LENSEMBER_VERSION "1.1.0"
+#define LENSEMBER_VERSION_MAJOR 1
+#define LENSEMBER_VERSION_MINOR 1
+#define LENSEMBER_VERSION_PATCH 0
 
 /* Sizes in bytes, and how many chunks a pool may have. */
 #define LENSEMBER_CHUNK_BYTES 2097152
@@ -99,6 +130,73 @@ extern "C" {
 #endif
 
 /*
+ * A pool: how many chunks it has, and its records. It is made by
+ * lensember_pool_at, may be copied, and needs no end: the memory that it was
+ * made on is the caller's. Two copies are the same pool.
+ */
+struct lensember_pool {
+    uint64_t c; /* chunks, 1 to 16 */
+    uint64_t *bits;
+    uint32_t *words;
+    uint64_t *slots;
+};
+
+/* Bytes of memory for the records of a pool of c chunks, aligned as a uint64_t is. */
+#define LENSEMBER_POOL_BYTES(c)                                                            \
+    ((size_t)(c) * (LENSEMBER_CHUNK_BITS * sizeof(uint64_t)                                \
+                    + LENSEMBER_CHUNK_WORDS * sizeof(uint32_t)                             \
+                    + LENSEMBER_CHUNK_SLOTS * sizeof(uint64_t)))
+
+/*
+ * The type of such memory, where c is a constant: for a static object, a member,
+ * or a typedef. It has LENSEMBER_POOL_BYTES(c) bytes.
+ *
+ *   static LENSEMBER_POOL_MEMORY(2) records;
+ */
+#define LENSEMBER_POOL_MEMORY(c)                        \
+    struct {                                            \
+        uint64_t bits[LENSEMBER_CHUNK_BITS * (c)];      \
+        uint32_t words[LENSEMBER_CHUNK_WORDS * (c)];    \
+        uint64_t slots[LENSEMBER_CHUNK_SLOTS * (c)];    \
+    }
+
+/*
+ * The pool of c chunks whose records lie in `memory`, nbytes of them. Nothing is
+ * read or written: make it fresh, replay a log, or go on with the records that
+ * lie there. To save a pool save these bytes.
+ *
+ * Where c is not 1 to 16, nbytes is not LENSEMBER_POOL_BYTES(c), or memory is
+ * null or not aligned, it is a pool of no chunk, which every call refuses by
+ * LENSEMBER_SHAPE; so the answer of malloc need not be looked at before.
+ */
+static inline struct lensember_pool lensember_pool_at(uint64_t c, void *memory, size_t nbytes)
+{
+    static uint64_t nothing;
+    struct lensember_pool pool;
+    unsigned char *start = (unsigned char *)memory;
+
+    if (c < 1 || c > LENSEMBER_MAX_CHUNKS || nbytes != LENSEMBER_POOL_BYTES(c)
+            || memory == NULL || (uintptr_t)memory % sizeof nothing != 0) {
+        c = 0;
+        start = (unsigned char *)&nothing;
+    }
+    pool.c = c;
+    pool.bits = (uint64_t *)(void *)start;
+    start += c * LENSEMBER_CHUNK_BITS * sizeof *pool.bits;
+    pool.words = (uint32_t *)(void *)start;
+    start += c * LENSEMBER_CHUNK_WORDS * sizeof *pool.words;
+    pool.slots = (uint64_t *)(void *)start;
+    return pool;
+}
+
+/* The seven arguments that lend a pool to the calls on plain buffers. */
+#define LENSEMBER_LENT(pool)                                        \
+    (pool)->c,                                                      \
+    (pool)->bits, (size_t)(pool)->c * LENSEMBER_CHUNK_BITS,         \
+    (pool)->words, (size_t)(pool)->c * LENSEMBER_CHUNK_WORDS,       \
+    (pool)->slots, (size_t)(pool)->c * LENSEMBER_CHUNK_SLOTS
+
+/*
  * Are these the records of a sound pool of c chunks? Reads only.
  *
  *   LENSEMBER_OK       they are
@@ -109,6 +207,11 @@ uint64_t lensember_check(uint64_t c,
                          const uint64_t *bits, size_t nbits,
                          const uint32_t *words, size_t nwords,
                          const uint64_t *slots, size_t nslots);
+
+static inline uint64_t lensember_pool_check(const struct lensember_pool *pool)
+{
+    return lensember_check(LENSEMBER_LENT(pool));
+}
 
 /*
  * Makes a fresh pool of c chunks: pages 1 to 511 of each chunk are free.
@@ -123,6 +226,11 @@ uint64_t lensember_fresh(uint64_t c,
                          uint64_t *bits, size_t nbits,
                          uint32_t *words, size_t nwords,
                          uint64_t *slots, size_t nslots);
+
+static inline uint64_t lensember_pool_fresh(struct lensember_pool *pool)
+{
+    return lensember_fresh(LENSEMBER_LENT(pool));
+}
 
 /*
  * The answer to reserve. Members that do not apply are 0; on a refusal all but
@@ -176,6 +284,12 @@ struct lensember_reserved lensember_reserve(uint64_t c,
                                             uint64_t *slots, size_t nslots,
                                             uint64_t size);
 
+static inline struct lensember_reserved lensember_pool_reserve(struct lensember_pool *pool,
+                                                               uint64_t size)
+{
+    return lensember_reserve(LENSEMBER_LENT(pool), size);
+}
+
 /*
  * Gives the block that starts at `place` back; any number may be given. The
  * pages of a page run are free for any request again. A slot is free for its
@@ -197,6 +311,11 @@ uint64_t lensember_release(uint64_t c,
                            uint32_t *words, size_t nwords,
                            uint64_t *slots, size_t nslots,
                            uint64_t place);
+
+static inline uint64_t lensember_pool_release(struct lensember_pool *pool, uint64_t place)
+{
+    return lensember_release(LENSEMBER_LENT(pool), place);
+}
 
 /*
  * The answer to resize. On a refusal all but `refusal` are 0. A block that was
@@ -244,6 +363,12 @@ struct lensember_resized lensember_resize(uint64_t c,
                                           uint64_t *slots, size_t nslots,
                                           uint64_t place, uint64_t size);
 
+static inline struct lensember_resized lensember_pool_resize(struct lensember_pool *pool,
+                                                             uint64_t place, uint64_t size)
+{
+    return lensember_resize(LENSEMBER_LENT(pool), place, size);
+}
+
 /* The answer to a sweep. On a refusal there are no pages. */
 struct lensember_swept {
     uint64_t refusal; /* LENSEMBER_OK, or the number of the refusal */
@@ -270,6 +395,11 @@ struct lensember_swept lensember_sweep(uint64_t c,
                                        uint32_t *words, size_t nwords,
                                        uint64_t *slots, size_t nslots);
 
+static inline struct lensember_swept lensember_pool_sweep(struct lensember_pool *pool)
+{
+    return lensember_sweep(LENSEMBER_LENT(pool));
+}
+
 /* The answer to block size. On a refusal the size is 0. */
 struct lensember_sized {
     uint64_t refusal; /* LENSEMBER_OK, or the number of the refusal */
@@ -293,6 +423,12 @@ struct lensember_sized lensember_block_size(uint64_t c,
                                             const uint32_t *words, size_t nwords,
                                             const uint64_t *slots, size_t nslots,
                                             uint64_t place);
+
+static inline struct lensember_sized lensember_pool_block_size(const struct lensember_pool *pool,
+                                                               uint64_t place)
+{
+    return lensember_block_size(LENSEMBER_LENT(pool), place);
+}
 
 /*
  * The answer to next. Place 0 is never handed out, so it says that there is no
@@ -324,6 +460,12 @@ struct lensember_found lensember_next(uint64_t c,
                                       const uint64_t *slots, size_t nslots,
                                       uint64_t place);
 
+static inline struct lensember_found lensember_pool_next(const struct lensember_pool *pool,
+                                                         uint64_t place)
+{
+    return lensember_next(LENSEMBER_LENT(pool), place);
+}
+
 /* The answer to a census. On a refusal the count is 0. */
 struct lensember_counted {
     uint64_t refusal; /* LENSEMBER_OK, or the number of the refusal */
@@ -354,6 +496,12 @@ struct lensember_counted lensember_census(uint64_t c,
                                           const uint64_t *slots, size_t nslots,
                                           uint64_t *room, size_t nroom);
 
+static inline struct lensember_counted lensember_pool_census(const struct lensember_pool *pool,
+                                                             uint64_t *room, size_t nroom)
+{
+    return lensember_census(LENSEMBER_LENT(pool), room, nroom);
+}
+
 /* The answer to totals. On a refusal all but `refusal` are 0. */
 struct lensember_summed {
     uint64_t refusal;    /* LENSEMBER_OK, or the number of the refusal */
@@ -378,6 +526,11 @@ struct lensember_summed lensember_totals(uint64_t c,
                                          const uint64_t *bits, size_t nbits,
                                          const uint32_t *words, size_t nwords,
                                          const uint64_t *slots, size_t nslots);
+
+static inline struct lensember_summed lensember_pool_totals(const struct lensember_pool *pool)
+{
+    return lensember_totals(LENSEMBER_LENT(pool));
+}
 
 /*
  * The answer to bytes: a part of the chosen arena. On a refusal it is empty, and
@@ -416,6 +569,13 @@ struct lensember_part lensember_bytes(uint64_t c,
                                       const uint64_t *slots, size_t nslots,
                                       uint64_t ear, uint64_t place,
                                       size_t nleft, size_t nright);
+
+static inline struct lensember_part lensember_pool_bytes(const struct lensember_pool *pool,
+                                                         uint64_t ear, uint64_t place,
+                                                         size_t nleft, size_t nright)
+{
+    return lensember_bytes(LENSEMBER_LENT(pool), ear, place, nleft, nright);
+}
 
 /*
  * The answer to a replay. The position is that of the offended field's first
@@ -461,6 +621,12 @@ struct lensember_replayed lensember_replay(uint64_t c,
                                            uint32_t *words, size_t nwords,
                                            uint64_t *slots, size_t nslots,
                                            const uint8_t *log, size_t nlog);
+
+static inline struct lensember_replayed lensember_pool_replay(struct lensember_pool *pool,
+                                                              const uint8_t *log, size_t nlog)
+{
+    return lensember_replay(LENSEMBER_LENT(pool), log, nlog);
+}
 
 /*
  * The answer to lines: that of the replay, and the length of the text. Where
@@ -513,6 +679,13 @@ struct lensember_printed lensember_lines(uint64_t c,
                                          uint64_t *slots, size_t nslots,
                                          const uint8_t *log, size_t nlog,
                                          uint8_t *out, size_t nout);
+
+static inline struct lensember_printed lensember_pool_lines(struct lensember_pool *pool,
+                                                            const uint8_t *log, size_t nlog,
+                                                            uint8_t *out, size_t nout)
+{
+    return lensember_lines(LENSEMBER_LENT(pool), log, nlog, out, nout);
+}
 
 /* The answer to append. On a refusal the length is 0. */
 struct lensember_written {

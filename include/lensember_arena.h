@@ -1,0 +1,479 @@
+/*
+ * Lensember's arena: memory to allocate from, cut by a pool.
+ *
+ * An arena is a pool with the bytes that its blocks lie in. A program asks for
+ * bytes and gets a pointer, as it would from malloc:
+ *
+ *   static LENSEMBER_POOL_MEMORY(2) records;
+ *   static LENSEMBER_ARENA_MEMORY(2) bytes;
+ *
+ *   struct lensember_arena arena = lensember_arena_at(
+ *       lensember_pool_at(2, &records, sizeof records), &bytes, sizeof bytes);
+ *   lensember_arena_fresh(&arena);
+ *   struct row *row = lensember_alloc(&arena, sizeof *row);
+ *
+ * There is nothing to link but the library: a function here is one or two calls
+ * on the pool and costs what they cost.
+ *
+ * A pointer is the arena's base plus the place of the block. It is aligned for
+ * every object whose size was asked for, as far as the base is aligned for it.
+ * The bytes of a new block hold anything.
+ *
+ * Mistakes that show. Compiled with -fsanitize=address, or with LENSEMBER_VALGRIND
+ * defined (which needs <valgrind/memcheck.h>) and run under valgrind, the bytes of
+ * the arena that are not handed out are out of bounds, and so are those of a block
+ * behind the size that was asked for: whoever reads or writes one is told, with
+ * the line. So is whoever gives lensember_free or lensember_realloc a pointer that
+ * is not a live block's. Without these two nothing is added.
+ *
+ * Threads are as for a pool: two arenas, two threads; of one arena, the caller
+ * locks.
+ */
+#ifndef LENSEMBER_ARENA_H
+#define LENSEMBER_ARENA_H
+
+#include "lensember.h"
+
+#include <string.h>
+
+#if defined(__SANITIZE_ADDRESS__)
+#define LENSEMBER_ASAN
+#elif defined(__has_feature)
+#if __has_feature(address_sanitizer)
+#define LENSEMBER_ASAN
+#endif
+#endif
+
+#if defined(LENSEMBER_ASAN)
+#include <sanitizer/asan_interface.h>
+#elif defined(LENSEMBER_VALGRIND)
+#include <valgrind/memcheck.h>
+#endif
+
+#ifdef __cplusplus
+extern "C" {
+#endif
+
+/* Bytes of the arena of a pool of c chunks. */
+#define LENSEMBER_ARENA_BYTES(c) ((size_t)(c) * LENSEMBER_CHUNK_BYTES)
+
+/*
+ * The type of such memory, where c is a constant, aligned as malloc would: for a
+ * static object, a member, or a typedef.
+ */
+#define LENSEMBER_ARENA_MEMORY(c)                      \
+    union {                                            \
+        unsigned char bytes[LENSEMBER_ARENA_BYTES(c)]; \
+        uint64_t whole;                                \
+        long double real;                              \
+        void *pointer;                                 \
+        void (*function)(void);                        \
+    }
+
+/*
+ * An arena, made by lensember_arena_at. All calls on its pool may be made on
+ * &arena.pool; behind those that change which blocks are live, fresh, reserve,
+ * release, resize, replay and lines, call lensember_arena_sync.
+ */
+struct lensember_arena {
+    struct lensember_pool pool;
+    unsigned char *base; /* of LENSEMBER_ARENA_BYTES(pool.c) bytes; place 0 */
+    uint64_t refusal;    /* what the last call here answered, LENSEMBER_OK or why not */
+};
+
+/* ---- Making an arena ---------------------------------------------------- */
+
+/*
+ * The arena of a pool, whose blocks lie in the nbytes bytes from `base` on.
+ * Nothing is read or written: make it fresh, or sync it where the pool has live
+ * blocks already.
+ *
+ * Where nbytes is not LENSEMBER_ARENA_BYTES(pool.c), or base is null or not a
+ * multiple of 8, it is an arena without a chunk, which every call refuses by
+ * LENSEMBER_SHAPE, as it does an arena of a pool that is none.
+ */
+static inline struct lensember_arena lensember_arena_at(struct lensember_pool pool, void *base,
+                                                        size_t nbytes);
+
+/* Makes the pool a fresh one: no block is live. Answers as lensember_fresh. */
+static inline uint64_t lensember_arena_fresh(struct lensember_arena *arena);
+
+/*
+ * Takes note of the live blocks of a pool that was loaded, replayed or changed by
+ * calls of its own: all bytes that these blocks were given may be used. Only a
+ * watched program needs it. Answers as lensember_check.
+ */
+static inline uint64_t lensember_arena_sync(struct lensember_arena *arena);
+
+/*
+ * Ends the arena, and every call refuses it then: its bytes are the caller's for anything, as before it was made
+ * or to be written to a file as a whole. Only a watched program needs it. The
+ * pool stays as it is.
+ */
+static inline void lensember_arena_close(struct lensember_arena *arena);
+
+/* ---- Allocating --------------------------------------------------------- */
+
+/*
+ * A block of at least n bytes, by lensember_reserve. Null where it is refused:
+ * arena->refusal says why. 0 bytes may be asked for, and give a block.
+ */
+static inline void *lensember_alloc(struct lensember_arena *arena, size_t n);
+
+/*
+ * Gives back the block that starts at this pointer; null is no block, and served.
+ * Answers as lensember_release.
+ */
+static inline uint64_t lensember_free(struct lensember_arena *arena, void *start);
+
+/*
+ * Gives the block that starts at this pointer at least n bytes, by
+ * lensember_resize, and answers where it starts now: there, or elsewhere, and
+ * then its bytes are copied. Null where it is refused: arena->refusal says why,
+ * and the block is as it was. Of a null pointer it is lensember_alloc. 0 bytes
+ * are a size as any other.
+ */
+static inline void *lensember_realloc(struct lensember_arena *arena, void *start, size_t n);
+
+/* ---- Pointers and places ------------------------------------------------ */
+
+/*
+ * Which block starts at this pointer, whatever it points to? Its place and size,
+ * or a refusal as of lensember_block_size, and both are 0.
+ */
+static inline struct lensember_found lensember_place_of(struct lensember_arena *arena,
+                                                        const void *start);
+
+/*
+ * Where does the block that starts at this place, any number, lie? Null for a
+ * refusal, as of lensember_block_size.
+ */
+static inline void *lensember_pointer_to(struct lensember_arena *arena, uint64_t place);
+
+/*
+ * How many bytes was the block that starts at this pointer given? 0 for a
+ * refusal. Those behind the size that was asked for can be had by a
+ * lensember_realloc to this size, which keeps the block where it is.
+ */
+static inline size_t lensember_usable_size(struct lensember_arena *arena, const void *start);
+
+/* ---- What AddressSanitizer and valgrind are told ------------------------ */
+
+/*
+ * A byte that was asked for, in a live block, is open; all others are shut.
+ *
+ *   lensember_shut_arena  shuts all bytes: no block is live
+ *   lensember_open_arena  opens all bytes: they are the caller's, in no block
+ *   lensember_open_new    opens n bytes of a new block
+ *   lensember_open_old    opens n bytes of a block that was written before
+ *   lensember_open_kept   of a block with `size` bytes n are open now, the others shut
+ *   lensember_shut_block  shuts a block of `size` bytes, which is live no longer
+ *   lensember_opened      of the first n bytes of a block, how many are open?
+ *   lensember_no_block    a pointer was given as a live block's, and is not
+ *
+ * Where nobody watches they do nothing, and all bytes of a block are open.
+ */
+#if defined(LENSEMBER_ASAN)
+
+static inline void lensember_shut_arena(const struct lensember_arena *arena)
+{
+    __asan_poison_memory_region(arena->base, LENSEMBER_ARENA_BYTES(arena->pool.c));
+}
+
+static inline void lensember_open_arena(const struct lensember_arena *arena)
+{
+    __asan_unpoison_memory_region(arena->base, LENSEMBER_ARENA_BYTES(arena->pool.c));
+}
+
+static inline void lensember_open_new(const struct lensember_arena *arena, void *start, size_t n)
+{
+    (void)arena;
+    __asan_unpoison_memory_region(start, n);
+}
+
+static inline void lensember_open_old(const struct lensember_arena *arena, void *start, size_t n)
+{
+    lensember_open_new(arena, start, n);
+}
+
+static inline void lensember_shut_block(const struct lensember_arena *arena, void *start,
+                                        size_t size)
+{
+    (void)arena;
+    __asan_poison_memory_region(start, size);
+}
+
+static inline void lensember_open_kept(const struct lensember_arena *arena, void *start,
+                                       size_t size, size_t n)
+{
+    lensember_shut_block(arena, start, size);
+    lensember_open_new(arena, start, n);
+}
+
+static inline size_t lensember_opened(void *start, size_t n)
+{
+    void *shut = __asan_region_is_poisoned(start, n);
+
+    return shut == NULL ? n : (size_t)((uintptr_t)shut - (uintptr_t)start);
+}
+
+/* Not inlined: the report begins where this returns to. */
+__attribute__((noinline, unused)) static void
+lensember_no_block(const struct lensember_arena *arena, void *start)
+{
+    (void)arena;
+    __asan_report_error(__builtin_return_address(0), __builtin_frame_address(0),
+                        __builtin_frame_address(0), start, 1, 1);
+}
+
+#elif defined(LENSEMBER_VALGRIND)
+
+static inline void lensember_open_arena(const struct lensember_arena *arena)
+{
+    if (VALGRIND_MEMPOOL_EXISTS(arena->base))
+        VALGRIND_DESTROY_MEMPOOL(arena->base);
+    (void)VALGRIND_MAKE_MEM_DEFINED(arena->base, LENSEMBER_ARENA_BYTES(arena->pool.c));
+}
+
+static inline void lensember_shut_arena(const struct lensember_arena *arena)
+{
+    lensember_open_arena(arena);
+    VALGRIND_CREATE_MEMPOOL(arena->base, 0, 0);
+    (void)VALGRIND_MAKE_MEM_NOACCESS(arena->base, LENSEMBER_ARENA_BYTES(arena->pool.c));
+}
+
+static inline void lensember_open_new(const struct lensember_arena *arena, void *start, size_t n)
+{
+    VALGRIND_MEMPOOL_ALLOC(arena->base, start, n);
+}
+
+static inline void lensember_open_old(const struct lensember_arena *arena, void *start, size_t n)
+{
+    lensember_open_new(arena, start, n);
+    (void)VALGRIND_MAKE_MEM_DEFINED(start, n);
+}
+
+static inline void lensember_shut_block(const struct lensember_arena *arena, void *start,
+                                        size_t size)
+{
+    (void)size;
+    VALGRIND_MEMPOOL_FREE(arena->base, start);
+}
+
+static inline size_t lensember_opened(void *start, size_t n)
+{
+    uintptr_t shut;
+
+    VALGRIND_DISABLE_ERROR_REPORTING;
+    shut = (uintptr_t)VALGRIND_CHECK_MEM_IS_ADDRESSABLE(start, n);
+    VALGRIND_ENABLE_ERROR_REPORTING;
+    return shut == 0 ? n : (size_t)(shut - (uintptr_t)start);
+}
+
+static inline void lensember_open_kept(const struct lensember_arena *arena, void *start,
+                                       size_t size, size_t n)
+{
+    size_t opened = lensember_opened(start, size);
+
+    VALGRIND_MEMPOOL_CHANGE(arena->base, start, start, n);
+    if (n > opened)
+        (void)VALGRIND_MAKE_MEM_UNDEFINED((unsigned char *)start + opened, n - opened);
+    else
+        (void)VALGRIND_MAKE_MEM_NOACCESS((unsigned char *)start + n, opened - n);
+}
+
+/* It has no such block: this is its report of a bad free. */
+static inline void lensember_no_block(const struct lensember_arena *arena, void *start)
+{
+    VALGRIND_MEMPOOL_FREE(arena->base, start);
+}
+
+#else
+
+#define LENSEMBER_UNWATCHED
+
+static inline void lensember_shut_arena(const struct lensember_arena *arena)
+{
+    (void)arena;
+}
+
+static inline void lensember_open_arena(const struct lensember_arena *arena)
+{
+    (void)arena;
+}
+
+static inline void lensember_open_new(const struct lensember_arena *arena, void *start, size_t n)
+{
+    (void)arena, (void)start, (void)n;
+}
+
+static inline void lensember_open_kept(const struct lensember_arena *arena, void *start,
+                                       size_t size, size_t n)
+{
+    (void)arena, (void)start, (void)size, (void)n;
+}
+
+static inline void lensember_shut_block(const struct lensember_arena *arena, void *start,
+                                        size_t size)
+{
+    (void)arena, (void)start, (void)size;
+}
+
+static inline size_t lensember_opened(void *start, size_t n)
+{
+    (void)start;
+    return n;
+}
+
+#endif
+
+/* ---- How it is done ----------------------------------------------------- */
+
+/* The place of what the pointer points to, if it is in the arena; else one outside its pool. */
+static inline uint64_t lensember_offset(const struct lensember_arena *arena, const void *start)
+{
+    return (uintptr_t)start - (uintptr_t)arena->base;
+}
+
+/* What the block has that is to be given back or resized, where somebody watches. */
+static inline size_t lensember_expect_live(const struct lensember_arena *arena, void *start)
+{
+#ifdef LENSEMBER_UNWATCHED
+    (void)arena, (void)start;
+    return 0;
+#else
+    struct lensember_sized block =
+        lensember_pool_block_size(&arena->pool, lensember_offset(arena, start));
+
+    if (block.refusal == LENSEMBER_NO_BLOCK || block.refusal == LENSEMBER_FREE_SLOT)
+        lensember_no_block(arena, start);
+    return (size_t)block.size;
+#endif
+}
+
+static inline struct lensember_arena lensember_arena_at(struct lensember_pool pool, void *base,
+                                                        size_t nbytes)
+{
+    struct lensember_arena arena;
+
+    if (nbytes != LENSEMBER_ARENA_BYTES(pool.c) || base == NULL || (uintptr_t)base % 8 != 0)
+        pool = lensember_pool_at(0, NULL, 0);
+    arena.pool = pool;
+    arena.base = (unsigned char *)base;
+    arena.refusal = pool.c == 0 ? LENSEMBER_SHAPE : LENSEMBER_OK;
+    return arena;
+}
+
+static inline uint64_t lensember_arena_fresh(struct lensember_arena *arena)
+{
+    arena->refusal = lensember_pool_fresh(&arena->pool);
+    if (arena->refusal == LENSEMBER_OK)
+        lensember_shut_arena(arena);
+    return arena->refusal;
+}
+
+static inline uint64_t lensember_arena_sync(struct lensember_arena *arena)
+{
+    arena->refusal = lensember_pool_check(&arena->pool);
+#ifndef LENSEMBER_UNWATCHED
+    if (arena->refusal == LENSEMBER_OK) {
+        struct lensember_found block = lensember_pool_next(&arena->pool, 0);
+
+        lensember_shut_arena(arena);
+        while (block.size != 0) {
+            lensember_open_old(arena, arena->base + block.place, (size_t)block.size);
+            block = lensember_pool_next(&arena->pool, block.place + block.size);
+        }
+    }
+#endif
+    return arena->refusal;
+}
+
+static inline void lensember_arena_close(struct lensember_arena *arena)
+{
+    lensember_open_arena(arena);
+    arena->pool = lensember_pool_at(0, NULL, 0);
+    arena->refusal = LENSEMBER_SHAPE;
+}
+
+static inline void *lensember_alloc(struct lensember_arena *arena, size_t n)
+{
+    struct lensember_reserved block = lensember_pool_reserve(&arena->pool, n);
+    unsigned char *start;
+
+    arena->refusal = block.refusal;
+    if (block.refusal != LENSEMBER_OK)
+        return NULL;
+    start = arena->base + block.place;
+    lensember_open_new(arena, start, n);
+    return start;
+}
+
+static inline uint64_t lensember_free(struct lensember_arena *arena, void *start)
+{
+    size_t size;
+
+    arena->refusal = LENSEMBER_OK;
+    if (start == NULL)
+        return arena->refusal;
+    size = lensember_expect_live(arena, start);
+    arena->refusal = lensember_pool_release(&arena->pool, lensember_offset(arena, start));
+    if (arena->refusal == LENSEMBER_OK)
+        lensember_shut_block(arena, start, size);
+    return arena->refusal;
+}
+
+static inline void *lensember_realloc(struct lensember_arena *arena, void *start, size_t n)
+{
+    struct lensember_resized block;
+    unsigned char *moved;
+    size_t size;
+
+    if (start == NULL)
+        return lensember_alloc(arena, n);
+    size = lensember_expect_live(arena, start);
+    block = lensember_pool_resize(&arena->pool, lensember_offset(arena, start), n);
+    arena->refusal = block.refusal;
+    if (block.refusal != LENSEMBER_OK)
+        return NULL;
+    if (block.how == LENSEMBER_KEPT) {
+        lensember_open_kept(arena, start, size, n);
+        return start;
+    }
+    moved = arena->base + block.place;
+    lensember_open_new(arena, moved, n);
+    memcpy(moved, start, lensember_opened(start, (size_t)block.copy));
+    lensember_shut_block(arena, start, size);
+    return moved;
+}
+
+static inline struct lensember_found lensember_place_of(struct lensember_arena *arena,
+                                                        const void *start)
+{
+    uint64_t place = lensember_offset(arena, start);
+    struct lensember_sized block = lensember_pool_block_size(&arena->pool, place);
+    struct lensember_found found;
+
+    arena->refusal = block.refusal;
+    found.refusal = block.refusal;
+    found.place = block.refusal == LENSEMBER_OK ? place : 0;
+    found.size = block.size;
+    return found;
+}
+
+static inline void *lensember_pointer_to(struct lensember_arena *arena, uint64_t place)
+{
+    arena->refusal = lensember_pool_block_size(&arena->pool, place).refusal;
+    return arena->refusal == LENSEMBER_OK ? arena->base + place : NULL;
+}
+
+static inline size_t lensember_usable_size(struct lensember_arena *arena, const void *start)
+{
+    return (size_t)lensember_place_of(arena, start).size;
+}
+
+#ifdef __cplusplus
+}
+#endif
+
+#endif
