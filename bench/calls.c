@@ -4,7 +4,7 @@
  *
  * Every call reads all records, for the check.
  */
-#include "lensember.h"
+#include "lensember_arena.h"
 #include "recipes.h"
 #include "timing.h"
 
@@ -439,6 +439,33 @@ static uint64_t total(size_t c)
     return lensember_totals(c, LENT(c)).refusal;
 }
 
+static uint64_t bytes_of_row(size_t c)
+{
+    return lensember_bytes(c, LENT(c), LENSEMBER_LEFT, row.place, LENSEMBER_ARENA_BYTES(c), 0)
+        .refusal;
+}
+
+/* A row and back, on the pool and by pointers. No byte of the arena is touched. */
+static uint64_t reserve_and_release(size_t c)
+{
+    return release(c, reserve(c, ROW).place);
+}
+
+static uint64_t alloc_and_free(size_t c)
+{
+    static LENSEMBER_ARENA_MEMORY(MAX_CHUNKS) bytes;
+    struct lensember_pool pool = {c, bits, words, slots};
+    struct lensember_arena arena = lensember_arena_at(pool, &bytes, LENSEMBER_ARENA_BYTES(c));
+
+    return lensember_free(&arena, lensember_alloc(&arena, ROW));
+}
+
+/* Whatever the pool is, it has no blocks then. */
+static uint64_t fresh(size_t c)
+{
+    return lensember_fresh(c, LENT(c));
+}
+
 /* Behind each call that changed something; timed alone too. */
 static uint64_t put_back(size_t c)
 {
@@ -531,6 +558,12 @@ static const struct sheet sheets[] = {
     {{"row to table", "table to row", "no block", "check"},
      {call_or, row_to_table, table_to_row, resize_nothing, check},
      FRESH_HALF_FULL},
+    {{"bytes of row", "row and back", "by pointers", "check"},
+     {call_or, bytes_of_row, reserve_and_release, alloc_and_free, check},
+     FRESH_HALF_FULL},
+    {{"fresh", "totals", "next, none", "check"},
+     {call_or, fresh, total, next_none, check},
+     {{"any", make_fresh}}},
     {{"sweep", "reserve 511", "reserve row", "put back"},
      {call_or, sweep, reserve_largest, reserve_any_row, put_back},
      {{"dropped", make_dropped},

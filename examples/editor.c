@@ -1,53 +1,36 @@
 /*
- * A small table editor, to show how a C program keeps its data in Lensember's
- * pools. Each ear has a pool: records that are lent to every call, and an arena
- * whose bytes are the program's own. A band row is a block of 24 bytes; a table
- * is a block that holds the places of its rows. What is done to a pool is written
- * to a request log.
+ * A small table editor, to show how a C program keeps its data in Lensember. Each
+ * ear has an arena, of records that the library keeps and bytes that are the
+ * program's. A band row is a block of 24 bytes; a table is a block that holds the
+ * pointers to its rows. What is done to an arena is written to a request log.
  *
  * The editor enters a table, copies it to the other ear, trims and extends it,
  * drops it, lists what is left, survives a damaged record, replays its logs,
  * sweeps, takes the text of another vendor, and says what it did.
  */
-#include "lensember.h"
+#include "lensember_arena.h"
 
 #include <inttypes.h>
 #include <stdio.h>
 #include <stdlib.h>
 #include <string.h>
 
-/* ---- An ear: records and an arena ---------------------------------------- */
+/* ---- An ear: an arena and its log ------------------------------------------ */
 
-enum {
-    CHUNKS = 2,
-    NBITS = CHUNKS * LENSEMBER_CHUNK_BITS,
-    NWORDS = CHUNKS * LENSEMBER_CHUNK_WORDS,
-    NSLOTS = CHUNKS * LENSEMBER_CHUNK_SLOTS,
-    ARENA_BYTES = CHUNKS * LENSEMBER_CHUNK_BYTES,
-    LOG_BYTES = 32768
-};
+enum { CHUNKS = 2, LOG_BYTES = 32768 };
 
-struct records {
-    uint64_t bits[NBITS];
-    uint32_t words[NWORDS];
-    uint64_t slots[NSLOTS];
-};
+typedef LENSEMBER_POOL_MEMORY(CHUNKS) pool_memory;
 
 struct ear {
     const char *name;
-    uint64_t number;        /* 0 left, 1 right */
-    struct records records; /* lent to each call */
-    uint8_t arena[ARENA_BYTES];
-    uint8_t log[LOG_BYTES]; /* what was done to the pool */
+    struct lensember_arena arena; /* of the next two */
+    pool_memory records;
+    LENSEMBER_ARENA_MEMORY(CHUNKS) bytes;
+    uint8_t log[LOG_BYTES]; /* what was done to the arena */
     uint64_t logged;        /* how many bytes of it are written */
 };
 
-static struct ear left = {.name = "left", .number = 0};
-static struct ear right = {.name = "right", .number = 1};
-
-/* The six arguments that lend an ear's records. */
-#define LENT(ear) \
-    (ear)->records.bits, NBITS, (ear)->records.words, NWORDS, (ear)->records.slots, NSLOTS
+static struct ear left, right;
 
 /* Ends the program where a call was refused that this editor never expects to be. */
 static void must(uint64_t refusal, const char *call)
@@ -68,62 +51,54 @@ static void note(struct ear *ear, uint64_t tag, uint64_t first, uint64_t second)
     ear->logged = log.length;
 }
 
-static void open_ear(struct ear *ear)
+static void open_ear(struct ear *ear, const char *name)
 {
-    must(lensember_fresh(CHUNKS, LENT(ear)), "fresh");
+    struct lensember_pool pool = lensember_pool_at(CHUNKS, &ear->records, sizeof ear->records);
+
+    ear->name = name;
+    ear->arena = lensember_arena_at(pool, &ear->bytes, sizeof ear->bytes);
+    must(lensember_arena_fresh(&ear->arena), "fresh");
     note(ear, LENSEMBER_START, CHUNKS, 0);
-    printf("%s ear: a fresh pool of %d chunks\n", ear->name, CHUNKS);
+    printf("%s ear: a fresh pool of %d chunks\n", name, CHUNKS);
 }
 
 /* ---- Blocks --------------------------------------------------------------- */
 
-static uint64_t reserve(struct ear *ear, uint64_t size)
+/* A log names blocks by their places, which are the same wherever the arena lies. */
+static struct lensember_found block_at(struct ear *ear, const void *start)
 {
-    struct lensember_reserved block = lensember_reserve(CHUNKS, LENT(ear), size);
+    struct lensember_found block = lensember_place_of(&ear->arena, start);
 
-    must(block.refusal, "reserve");
-    note(ear, LENSEMBER_RESERVE, size, 0);
-    return block.place;
+    must(block.refusal, "place");
+    return block;
 }
 
-static void release(struct ear *ear, uint64_t place)
+static void *reserve(struct ear *ear, size_t size)
 {
-    must(lensember_release(CHUNKS, LENT(ear), place), "release");
+    void *start = lensember_alloc(&ear->arena, size);
+
+    must(ear->arena.refusal, "alloc");
+    note(ear, LENSEMBER_RESERVE, size, 0);
+    return start;
+}
+
+static void release(struct ear *ear, void *start)
+{
+    uint64_t place = block_at(ear, start).place;
+
+    must(lensember_free(&ear->arena, start), "free");
     note(ear, LENSEMBER_RELEASE, place, 0);
 }
 
-static uint64_t size_of(const struct ear *ear, uint64_t place)
+/* Where the block starts now. Its bytes are there, the old pointer is none any more. */
+static void *resize(struct ear *ear, void *start, size_t size)
 {
-    struct lensember_sized block = lensember_block_size(CHUNKS, LENT(ear), place);
+    uint64_t place = block_at(ear, start).place;
+    void *now = lensember_realloc(&ear->arena, start, size);
 
-    must(block.refusal, "block size");
-    return block.size;
-}
-
-/* Where the block's bytes are. They stay there until it is released or moved. */
-static uint8_t *bytes_of(struct ear *ear, uint64_t place)
-{
-    struct lensember_part part = lensember_bytes(CHUNKS, LENT(ear), ear->number, place,
-                                                 sizeof left.arena, sizeof right.arena);
-
-    must(part.refusal, "bytes");
-    return ear->arena + part.start;
-}
-
-/*
- * Gives the block another size and answers its place. Where that is another one
- * the bytes are copied at once: what is reserved next may lie over the old ones.
- */
-static uint64_t resize(struct ear *ear, uint64_t place, uint64_t size)
-{
-    const uint8_t *old = bytes_of(ear, place);
-    struct lensember_resized block = lensember_resize(CHUNKS, LENT(ear), place, size);
-
-    must(block.refusal, "resize");
+    must(ear->arena.refusal, "realloc");
     note(ear, LENSEMBER_RESIZE, place, size);
-    if (block.how == LENSEMBER_MOVED)
-        memcpy(bytes_of(ear, block.place), old, block.copy);
-    return block.place;
+    return now;
 }
 
 /* ---- Rows ------------------------------------------------------------------ */
@@ -133,19 +108,6 @@ struct row {
     uint32_t band, hertz;
     int32_t gains[4]; /* for soft, medium, loud and very loud sounds */
 };
-
-static void put_row(struct ear *ear, uint64_t place, const struct row *row)
-{
-    memcpy(bytes_of(ear, place), row, sizeof *row);
-}
-
-static struct row get_row(struct ear *ear, uint64_t place)
-{
-    struct row row;
-
-    memcpy(&row, bytes_of(ear, place), sizeof row);
-    return row;
-}
 
 /* What the booth measured in a band. */
 static struct row measured(uint32_t band)
@@ -160,46 +122,32 @@ static struct row measured(uint32_t band)
 
 struct table {
     struct ear *ear;
-    uint64_t place; /* of the block that holds the places of the rows */
-    unsigned rows;
+    struct row **rows; /* a block that holds the pointers to them */
+    unsigned count;
 };
 
-static uint64_t row_place(const struct table *table, unsigned number)
-{
-    uint64_t place;
-
-    memcpy(&place, bytes_of(table->ear, table->place) + number * sizeof place, sizeof place);
-    return place;
-}
-
-static void set_row_place(const struct table *table, unsigned number, uint64_t place)
-{
-    memcpy(bytes_of(table->ear, table->place) + number * sizeof place, &place, sizeof place);
-}
-
-static struct row table_row(const struct table *table, unsigned number)
-{
-    return get_row(table->ear, row_place(table, number));
-}
-
 /* The rows from this one on are reserved, their bytes not yet written. */
-static void reserve_rows(const struct table *table, unsigned from)
+static void reserve_rows(struct table *table, unsigned from)
 {
-    for (unsigned i = from; i < table->rows; i++)
-        set_row_place(table, i, reserve(table->ear, sizeof(struct row)));
+    for (unsigned i = from; i < table->count; i++)
+        table->rows[i] = reserve(table->ear, sizeof *table->rows[i]);
 }
 
-static void measure_rows(const struct table *table, unsigned from)
+static void measure_rows(struct table *table, unsigned from)
 {
-    for (unsigned i = from; i < table->rows; i++) {
-        struct row row = measured(i);
-        put_row(table->ear, row_place(table, i), &row);
-    }
+    for (unsigned i = from; i < table->count; i++)
+        *table->rows[i] = measured(i);
 }
 
-static struct table table_of(struct ear *ear, unsigned rows)
+static void release_rows(struct table *table, unsigned from)
 {
-    struct table table = {ear, reserve(ear, rows * sizeof(uint64_t)), rows};
+    for (unsigned i = from; i < table->count; i++)
+        release(table->ear, table->rows[i]);
+}
+
+static struct table table_of(struct ear *ear, unsigned count)
+{
+    struct table table = {ear, reserve(ear, count * sizeof *table.rows), count};
 
     reserve_rows(&table, 0);
     return table;
@@ -207,8 +155,10 @@ static struct table table_of(struct ear *ear, unsigned rows)
 
 static void tell(const struct table *table, const char *what)
 {
+    struct lensember_found block = block_at(table->ear, table->rows);
+
     printf("%s ear: %s, %u rows; the table lies at %" PRIu64 ", size %" PRIu64 "\n",
-           table->ear->name, what, table->rows, table->place, size_of(table->ear, table->place));
+           table->ear->name, what, table->count, block.place, block.size);
 }
 
 static struct table enter(struct ear *ear, unsigned bands)
@@ -222,60 +172,59 @@ static struct table enter(struct ear *ear, unsigned bands)
 
 static struct table copy(const struct table *from, struct ear *to)
 {
-    struct table table = table_of(to, from->rows);
+    struct table table = table_of(to, from->count);
 
-    for (unsigned i = 0; i < from->rows; i++) {
-        struct row row = table_row(from, i);
-        put_row(to, row_place(&table, i), &row);
-    }
+    for (unsigned i = 0; i < from->count; i++)
+        *table.rows[i] = *from->rows[i];
     tell(&table, "copied");
     return table;
 }
 
-/* The block that holds the places gets the size for so many rows, where it lies or elsewhere. */
-static void resize_table(struct table *table, unsigned rows)
+/* The block that holds the pointers gets the size for so many, where it lies or elsewhere. */
+static void resize_table(struct table *table, unsigned count)
 {
-    table->place = resize(table->ear, table->place, rows * sizeof(uint64_t));
-    table->rows = rows;
+    table->rows = resize(table->ear, table->rows, count * sizeof *table->rows);
+    table->count = count;
 }
 
 /* Drops the last rows. */
-static void trim(struct table *table, unsigned rows)
+static void trim(struct table *table, unsigned count)
 {
-    for (unsigned i = rows; i < table->rows; i++)
-        release(table->ear, row_place(table, i));
-    resize_table(table, rows);
+    release_rows(table, count);
+    resize_table(table, count);
     tell(table, "trimmed");
 }
 
 /* Enters more rows behind the others. */
-static void extend(struct table *table, unsigned rows)
+static void extend(struct table *table, unsigned count)
 {
-    unsigned from = table->rows;
+    unsigned from = table->count;
 
-    resize_table(table, rows);
+    resize_table(table, count);
     reserve_rows(table, from);
     measure_rows(table, from);
     tell(table, "extended");
 }
 
-static void drop(const struct table *table)
+static void drop(struct table *table)
 {
-    for (unsigned i = 0; i < table->rows; i++)
-        release(table->ear, row_place(table, i));
-    release(table->ear, table->place);
+    uint64_t place = block_at(table->ear, table->rows).place;
+
+    release_rows(table, 0);
+    release(table->ear, table->rows);
     printf("%s ear: dropped, the table at %" PRIu64 " and its %u rows\n",
-           table->ear->name, table->place, table->rows);
+           table->ear->name, place, table->count);
 }
 
 static void read_out(const struct table *table)
 {
-    printf("%s ear: the table at %" PRIu64 " reads\n", table->ear->name, table->place);
-    for (unsigned i = 0; i < table->rows; i++) {
-        struct row row = table_row(table, i);
+    printf("%s ear: the table at %" PRIu64 " reads\n", table->ear->name,
+           block_at(table->ear, table->rows).place);
+    for (unsigned i = 0; i < table->count; i++) {
+        const struct row *row = table->rows[i];
         printf("  band %2" PRIu32 "  %4" PRIu32 " Hz  gains %2" PRId32 " %2" PRId32 " %2" PRId32
                " %2" PRId32 "\n",
-               row.band, row.hertz, row.gains[0], row.gains[1], row.gains[2], row.gains[3]);
+               row->band, row->hertz, row->gains[0], row->gains[1], row->gains[2], row->gains[3]);
     }
 }
 
@@ -283,7 +232,7 @@ static void read_out(const struct table *table)
 
 static struct lensember_summed totals(const struct ear *ear)
 {
-    struct lensember_summed sums = lensember_totals(CHUNKS, LENT(ear));
+    struct lensember_summed sums = lensember_pool_totals(&ear->arena.pool);
 
     must(sums.refusal, "totals");
     return sums;
@@ -300,7 +249,7 @@ static void print_totals(const struct ear *ear)
 /* Of the dropped rows the pages are free again for anything, not for rows alone. */
 static void sweep(struct ear *ear)
 {
-    struct lensember_swept swept = lensember_sweep(CHUNKS, LENT(ear));
+    struct lensember_swept swept = lensember_pool_sweep(&ear->arena.pool);
 
     must(swept.refusal, "sweep");
     printf("%s ear: a sweep gains %" PRIu64 " pages\n", ear->name, swept.pages);
@@ -317,7 +266,7 @@ static void list_by_census(const struct ear *ear)
         perror("editor");
         exit(1);
     }
-    blocks = lensember_census(CHUNKS, LENT(ear), room, nroom);
+    blocks = lensember_pool_census(&ear->arena.pool, room, nroom);
     must(blocks.refusal, "census");
     printf("%s ear: %" PRIu64 " blocks by census:", ear->name, blocks.count);
     for (uint64_t i = 0; i < blocks.count; i++)
@@ -329,12 +278,12 @@ static void list_by_census(const struct ear *ear)
 /* The same without any room: from each block to the one behind it. */
 static void list_by_next(const struct ear *ear)
 {
-    struct lensember_found block = lensember_next(CHUNKS, LENT(ear), 0);
+    struct lensember_found block = lensember_pool_next(&ear->arena.pool, 0);
 
     printf("%s ear: block by block:", ear->name);
-    while (block.place != 0) {
+    while (block.size != 0) {
         printf(" %" PRIu64 "+%" PRIu64, block.place, block.size);
-        block = lensember_next(CHUNKS, LENT(ear), block.place + block.size);
+        block = lensember_pool_next(&ear->arena.pool, block.place + block.size);
     }
     must(block.refusal, "next");
     printf("\n");
@@ -342,44 +291,50 @@ static void list_by_next(const struct ear *ear)
 
 /* ---- Mistakes, and a damaged record ------------------------------------------ */
 
-/* A refused call changes nothing, so a mistake costs nothing. */
+/*
+ * A refused call changes nothing, so a mistake costs nothing. These are made on
+ * the pool, by places: lensember_free would have a watched program stopped there.
+ */
 static void make_mistakes(struct ear *ear, uint64_t dropped, uint64_t live)
 {
+    struct lensember_pool *pool = &ear->arena.pool;
+
     printf("%s ear: releasing a dropped row again is refused %" PRIu64 "\n", ear->name,
-           lensember_release(CHUNKS, LENT(ear), dropped));
+           lensember_pool_release(pool, dropped));
     printf("%s ear: releasing the middle of a row is refused %" PRIu64 "\n", ear->name,
-           lensember_release(CHUNKS, LENT(ear), live + sizeof(struct row) / 2));
+           lensember_pool_release(pool, live + sizeof(struct row) / 2));
     printf("%s ear: reserving 3000000 bytes is refused %" PRIu64 "\n", ear->name,
-           lensember_reserve(CHUNKS, LENT(ear), 3000000).refusal);
+           lensember_pool_reserve(pool, 3000000).refusal);
     printf("%s ear: resizing a dropped row is refused %" PRIu64 "\n", ear->name,
-           lensember_resize(CHUNKS, LENT(ear), dropped, 2 * sizeof(struct row)).refusal);
+           lensember_pool_resize(pool, dropped, 2 * sizeof(struct row)).refusal);
 }
 
 /* Every call on a pool looks at all its records first. */
 static void try_all_calls(struct ear *ear, uint64_t live)
 {
+    struct lensember_pool *pool = &ear->arena.pool;
     uint64_t room[2];
 
     printf("%s ear: check %" PRIu64 ", reserve %" PRIu64 ", release %" PRIu64
            ", resize %" PRIu64 ", sweep %" PRIu64 ", block size %" PRIu64 ", next %" PRIu64
            ", census %" PRIu64 ", totals %" PRIu64 ", bytes %" PRIu64 "\n",
            ear->name,
-           lensember_check(CHUNKS, LENT(ear)),
-           lensember_reserve(CHUNKS, LENT(ear), sizeof(struct row)).refusal,
-           lensember_release(CHUNKS, LENT(ear), live),
-           lensember_resize(CHUNKS, LENT(ear), live, 2 * sizeof(struct row)).refusal,
-           lensember_sweep(CHUNKS, LENT(ear)).refusal,
-           lensember_block_size(CHUNKS, LENT(ear), live).refusal,
-           lensember_next(CHUNKS, LENT(ear), 0).refusal,
-           lensember_census(CHUNKS, LENT(ear), room, 2).refusal,
-           lensember_totals(CHUNKS, LENT(ear)).refusal,
-           lensember_bytes(CHUNKS, LENT(ear), ear->number, live,
-                           sizeof left.arena, sizeof right.arena).refusal);
+           lensember_pool_check(pool),
+           lensember_pool_reserve(pool, sizeof(struct row)).refusal,
+           lensember_pool_release(pool, live),
+           lensember_pool_resize(pool, live, 2 * sizeof(struct row)).refusal,
+           lensember_pool_sweep(pool).refusal,
+           lensember_pool_block_size(pool, live).refusal,
+           lensember_pool_next(pool, 0).refusal,
+           lensember_pool_census(pool, room, 2).refusal,
+           lensember_pool_totals(pool).refusal,
+           lensember_pool_bytes(pool, LENSEMBER_RIGHT, live, sizeof left.bytes,
+                                sizeof right.bytes).refusal);
 }
 
 static void survive_damage(struct ear *ear, uint64_t live)
 {
-    static struct records saved, damaged;
+    static pool_memory saved, damaged;
 
     saved = ear->records;
     ear->records.words[5] ^= 4;
@@ -390,7 +345,7 @@ static void survive_damage(struct ear *ear, uint64_t live)
            memcmp(&ear->records, &damaged, sizeof damaged) == 0 ? "nothing" : "something");
     ear->records = saved;
     printf("%s ear: restored from the saved copy, check answers %" PRIu64 "\n", ear->name,
-           lensember_check(CHUNKS, LENT(ear)));
+           lensember_pool_check(&ear->arena.pool));
 }
 
 /* ---- Logs, and another vendor's text ----------------------------------------- */
@@ -398,11 +353,11 @@ static void survive_damage(struct ear *ear, uint64_t live)
 /* Whoever replays the log has the same pool. */
 static void close_log(struct ear *ear)
 {
-    static struct records again;
+    static pool_memory again;
+    struct lensember_pool pool = lensember_pool_at(CHUNKS, &again, sizeof again);
 
     note(ear, LENSEMBER_END, 0, 0);
-    must(lensember_replay(CHUNKS, again.bits, NBITS, again.words, NWORDS, again.slots, NSLOTS,
-                          ear->log, (size_t)ear->logged).refusal, "replay");
+    must(lensember_pool_replay(&pool, ear->log, (size_t)ear->logged).refusal, "replay");
     printf("%s ear: the log of %" PRIu64 " bytes replays to %s records\n", ear->name, ear->logged,
            memcmp(&again, &ear->records, sizeof again) == 0 ? "the same" : "other");
 }
@@ -419,7 +374,8 @@ static void take_text(struct ear *ear, const char *text)
     }
     must(log.refusal, "import");
     ear->logged = log.length;
-    must(lensember_replay(CHUNKS, LENT(ear), ear->log, (size_t)ear->logged).refusal, "replay");
+    must(lensember_pool_replay(&ear->arena.pool, ear->log, (size_t)ear->logged).refusal, "replay");
+    must(lensember_arena_sync(&ear->arena), "sync");
     printf("%s ear: a pool from a text, by a log of %" PRIu64 " bytes\n", ear->name, ear->logged);
 }
 
@@ -446,24 +402,24 @@ int main(void)
     struct table day, other, long_one;
     uint64_t gone;
 
-    open_ear(&left);
-    open_ear(&right);
+    open_ear(&left, "left");
+    open_ear(&right, "right");
 
     day = enter(&left, 22);
     other = copy(&day, &right);
-    long_one = enter(&left, 600); /* its places take a run of two pages */
+    long_one = enter(&left, 600); /* its pointers take a run of two pages */
     trim(&long_one, 400);         /* which gives one back, */
     extend(&long_one, 1000);      /* gets it again, */
     extend(&long_one, 1100);      /* moves to where there are three, */
     trim(&long_one, 6);           /* and ends as a slot */
     trim(&other, 8);
-    gone = row_place(&day, 0);
+    gone = block_at(&left, day.rows[0]).place;
     drop(&day);
 
     list_by_census(&left);
     list_by_next(&right);
-    make_mistakes(&left, gone, row_place(&long_one, 0));
-    survive_damage(&right, row_place(&other, 0));
+    make_mistakes(&left, gone, block_at(&left, long_one.rows[0]).place);
+    survive_damage(&right, block_at(&right, other.rows[0]).place);
 
     read_out(&long_one);
     read_out(&other);

@@ -1,7 +1,7 @@
 /*
- * A first look at Lensember: lend the buffers of one chunk, make a fresh pool,
- * reserve a row and a table, let the table grow, list them, give the row back,
- * sweep, check the records, damage one bit, and see that the check notices.
+ * A first look at Lensember: make a fresh pool of one chunk, reserve a row and a
+ * table, let the table grow, list them, give the row back, sweep, check the
+ * records, damage one bit, and see that the check notices.
  */
 #include "lensember.h"
 
@@ -9,17 +9,15 @@
 #include <stdio.h>
 
 /* The program owns the records. The library keeps nothing between calls. */
-static uint64_t bits[LENSEMBER_CHUNK_BITS];
-static uint32_t words[LENSEMBER_CHUNK_WORDS];
-static uint64_t slots[LENSEMBER_CHUNK_SLOTS];
+static LENSEMBER_POOL_MEMORY(1) records;
 
-/* Each call is lent all three buffers. */
-#define LENT bits, LENSEMBER_CHUNK_BITS, words, LENSEMBER_CHUNK_WORDS, slots, LENSEMBER_CHUNK_SLOTS
+/* Lent to each call. */
+static struct lensember_pool pool;
 
 /* A place counts from the pool's first byte, wherever the program keeps it. */
 static struct lensember_reserved reserve(const char *what, uint64_t size)
 {
-    struct lensember_reserved block = lensember_reserve(1, LENT, size);
+    struct lensember_reserved block = lensember_pool_reserve(&pool, size);
 
     printf("%s of %" PRIu64 " bytes lies at %" PRIu64 ", size %" PRIu64 "\n",
            what, size, block.place, block.size);
@@ -29,7 +27,7 @@ static struct lensember_reserved reserve(const char *what, uint64_t size)
 /* The pages behind the table are free, so it stays where it is, and no byte is to be copied. */
 static int grow(uint64_t place, uint64_t size)
 {
-    struct lensember_resized table = lensember_resize(1, LENT, place, size);
+    struct lensember_resized table = lensember_pool_resize(&pool, place, size);
 
     printf("the table, now of %" PRIu64 " bytes, lies at %" PRIu64 ", size %" PRIu64 "\n", size,
            table.place, table.size);
@@ -38,7 +36,7 @@ static int grow(uint64_t place, uint64_t size)
 
 static int total(void)
 {
-    struct lensember_summed totals = lensember_totals(1, LENT);
+    struct lensember_summed totals = lensember_pool_totals(&pool);
 
     printf("totals: %" PRIu64 " blocks, %" PRIu64 " bytes, %" PRIu64 " free pages\n",
            totals.blocks, totals.bytes, totals.free_pages);
@@ -48,11 +46,11 @@ static int total(void)
 /* From place 0 on, then from right behind each block. Place 0 says: no more. */
 static int walk(void)
 {
-    struct lensember_found block = lensember_next(1, LENT, 0);
+    struct lensember_found block = lensember_pool_next(&pool, 0);
 
     while (block.place != 0) {
         printf("next is %" PRIu64 ", size %" PRIu64 "\n", block.place, block.size);
-        block = lensember_next(1, LENT, block.place + block.size);
+        block = lensember_pool_next(&pool, block.place + block.size);
     }
     return block.refusal == LENSEMBER_OK;
 }
@@ -61,7 +59,7 @@ static int walk(void)
 static int list(void)
 {
     uint64_t room[8];
-    struct lensember_counted blocks = lensember_census(1, LENT, room, 8);
+    struct lensember_counted blocks = lensember_pool_census(&pool, room, 8);
 
     printf("census of %" PRIu64 ":", blocks.count);
     for (uint64_t i = 0; i < blocks.count; i++)
@@ -74,8 +72,8 @@ static int list(void)
 /* A row that is given back twice is noticed, and nothing else changes. */
 static int release_twice(uint64_t place)
 {
-    uint64_t once = lensember_release(1, LENT, place);
-    uint64_t again = lensember_release(1, LENT, place);
+    uint64_t once = lensember_pool_release(&pool, place);
+    uint64_t again = lensember_pool_release(&pool, place);
 
     printf("release of the row answers %" PRIu64 ", once more %" PRIu64 "\n", once, again);
     return once == LENSEMBER_OK && again == LENSEMBER_FREE_SLOT;
@@ -87,7 +85,7 @@ static int release_twice(uint64_t place)
  */
 static int sweep(void)
 {
-    struct lensember_swept swept = lensember_sweep(1, LENT);
+    struct lensember_swept swept = lensember_pool_sweep(&pool);
 
     printf("sweep gains %" PRIu64 " page\n", swept.pages);
     return swept.refusal == LENSEMBER_OK && swept.pages == 1;
@@ -109,7 +107,7 @@ static const char *meaning(uint64_t answer)
 
 static uint64_t check(void)
 {
-    uint64_t answer = lensember_check(1, LENT);
+    uint64_t answer = lensember_pool_check(&pool);
 
     printf("check answers %" PRIu64 ": %s\n", answer, meaning(answer));
     return answer;
@@ -124,7 +122,8 @@ int main(void)
     printf("a pool of 1 chunk: %d bytes in %d pages\n",
            LENSEMBER_CHUNK_BYTES, LENSEMBER_CHUNK_PAGES);
 
-    fresh = lensember_fresh(1, LENT);
+    pool = lensember_pool_at(1, &records, sizeof records);
+    fresh = lensember_pool_fresh(&pool);
     printf("fresh answers %" PRIu64 "\n", fresh);
 
     row = reserve("a row", 24);
@@ -135,7 +134,7 @@ int main(void)
     swept = sweep() && total();
     sound = check();
 
-    bits[0] ^= UINT64_C(1) << 7;
+    records.bits[0] ^= UINT64_C(1) << 7;
     printf("page 7 now counts as taken, but no run holds it\n");
     damaged = check();
 

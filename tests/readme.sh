@@ -1,5 +1,5 @@
 #!/bin/sh
-# README.md says what is so: the program that it shows is compiled, each command
+# README.md says what is so: the programs that it shows are compiled, each command
 # behind a '$ ' is run from the repository's root, and what it prints is held to
 # the lines below it. Only ./test is passed over, which runs this.
 #
@@ -13,9 +13,13 @@ trap 'rm -rf "$work"' EXIT
 passed=0
 failed=0
 
-# The program between ```c and ``` is build/hello.c, as the text says.
+# A program between ```c and ``` goes to the file that the text before it names.
 mkdir -p build
-sed -n '/^```c$/,/^```$/p' README.md | sed '/^```/d' >build/hello.c
+awk '
+    match($0, /`build\/[a-z]*\.c`/) { file = substr($0, RSTART + 1, RLENGTH - 2) }
+    /^```$/ { inside = 0 }
+    inside { print > file }
+    /^```c$/ { inside = 1 }' README.md
 
 # Each indented block whose first line is a command: a file for the command, one
 # for what it prints.

@@ -1,4 +1,4 @@
-/* The library's calls, each on the whole records of a pool. */
+/* The library's calls, each on the whole records of a pool, by the forms that take it as one value. */
 #ifndef CALLS_H
 #define CALLS_H
 
