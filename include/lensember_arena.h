@@ -85,8 +85,7 @@ struct lensember_arena {
 
 /*
  * The arena of a pool, whose blocks lie in the nbytes bytes from `base` on.
- * Nothing is read or written: make it fresh, or sync it where the pool has live
- * blocks already.
+ * Nothing is read or written. Where the pool has live blocks already, sync it.
  *
  * Where nbytes is not LENSEMBER_ARENA_BYTES(pool.c), or base is null or not a
  * multiple of 8, it is an arena without a chunk, which every call refuses by
@@ -335,7 +334,7 @@ static inline uint64_t lensember_offset(const struct lensember_arena *arena, con
     return (uintptr_t)start - (uintptr_t)arena->base;
 }
 
-/* What the block has that is to be given back or resized, where somebody watches. */
+/* The size of a block that is to be given back or resized, where somebody watches. */
 static inline size_t lensember_expect_live(const struct lensember_arena *arena, void *start)
 {
 #ifdef LENSEMBER_UNWATCHED
@@ -361,6 +360,8 @@ static inline struct lensember_arena lensember_arena_at(struct lensember_pool po
     arena.pool = pool;
     arena.base = (unsigned char *)base;
     arena.refusal = pool.c == 0 ? LENSEMBER_SHAPE : LENSEMBER_OK;
+    if (arena.refusal == LENSEMBER_OK)
+        lensember_shut_arena(&arena);
     return arena;
 }
 
