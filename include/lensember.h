@@ -50,12 +50,13 @@
  * run side by side while none changes it.
  *
  * When LENSEMBER_DAMAGED is answered, something else has written into the
- * records, a wild pointer or a failing memory, and no call says any more what
- * lies where. Nothing was changed by the call. Write no block of that pool; put
- * the records back, from a copy or by a replay of the pool's log, which gives
- * the same places; see that lensember_check answers LENSEMBER_OK; and trust the
- * bytes of the blocks only as far as a checksum of the caller's own goes, for
- * who wrote into the records may have written there too.
+ * records, a wild pointer or a failing memory, and nobody knows any more what
+ * lies where. Write no block of that pool. Put its records back: from a copy, or
+ * by a replay of its log, which gives each block its place again if every call is
+ * in the log (a sweep of the program's own is not, there is no field for it). See
+ * that a check answers LENSEMBER_OK. The bytes of the blocks nobody checks: trust
+ * them as far as a checksum of the program's own goes, for what has written into
+ * the records may have written there too.
  */
 #ifndef LENSEMBER_H
 #define LENSEMBER_H
@@ -141,23 +142,25 @@ struct lensember_pool {
     uint64_t *slots;
 };
 
-/* Bytes of memory for the records of a pool of c chunks, aligned as a uint64_t is. */
-#define LENSEMBER_POOL_BYTES(c)                                                            \
-    ((size_t)(c) * (LENSEMBER_CHUNK_BITS * sizeof(uint64_t)                                \
-                    + LENSEMBER_CHUNK_WORDS * sizeof(uint32_t)                             \
-                    + LENSEMBER_CHUNK_SLOTS * sizeof(uint64_t)))
+/*
+ * Bytes of memory for the records of a pool of c chunks, 34,880 a chunk. They are
+ * aligned as a uint64_t is, so malloc's are.
+ */
+#define LENSEMBER_POOL_BYTES(c)                                \
+    ((size_t)(c)                                               \
+     * (LENSEMBER_CHUNK_BITS * sizeof(uint64_t)                \
+        + LENSEMBER_CHUNK_WORDS * sizeof(uint32_t)             \
+        + LENSEMBER_CHUNK_SLOTS * sizeof(uint64_t)))
 
 /*
  * The type of such memory, where c is a constant: for a static object, a member,
- * or a typedef. It has LENSEMBER_POOL_BYTES(c) bytes.
- *
- *   static LENSEMBER_POOL_MEMORY(2) records;
+ * or a typedef. It has exactly these bytes.
  */
-#define LENSEMBER_POOL_MEMORY(c)                        \
-    struct {                                            \
-        uint64_t bits[LENSEMBER_CHUNK_BITS * (c)];      \
-        uint32_t words[LENSEMBER_CHUNK_WORDS * (c)];    \
-        uint64_t slots[LENSEMBER_CHUNK_SLOTS * (c)];    \
+#define LENSEMBER_POOL_MEMORY(c)                     \
+    struct {                                         \
+        uint64_t bits[LENSEMBER_CHUNK_BITS * (c)];   \
+        uint32_t words[LENSEMBER_CHUNK_WORDS * (c)]; \
+        uint64_t slots[LENSEMBER_CHUNK_SLOTS * (c)]; \
     }
 
 /*
@@ -190,10 +193,10 @@ static inline struct lensember_pool lensember_pool_at(uint64_t c, void *memory, 
 }
 
 /* The seven arguments that lend a pool to the calls on plain buffers. */
-#define LENSEMBER_LENT(pool)                                        \
-    (pool)->c,                                                      \
-    (pool)->bits, (size_t)(pool)->c * LENSEMBER_CHUNK_BITS,         \
-    (pool)->words, (size_t)(pool)->c * LENSEMBER_CHUNK_WORDS,       \
+#define LENSEMBER_LENT(pool)                                  \
+    (pool)->c,                                                \
+    (pool)->bits, (size_t)(pool)->c * LENSEMBER_CHUNK_BITS,   \
+    (pool)->words, (size_t)(pool)->c * LENSEMBER_CHUNK_WORDS, \
     (pool)->slots, (size_t)(pool)->c * LENSEMBER_CHUNK_SLOTS
 
 /*
