@@ -105,9 +105,9 @@ static inline uint64_t lensember_arena_fresh(struct lensember_arena *arena);
 static inline uint64_t lensember_arena_sync(struct lensember_arena *arena);
 
 /*
- * Ends the arena, and every call refuses it then: its bytes are the caller's for anything, as before it was made
- * or to be written to a file as a whole. Only a watched program needs it. The
- * pool stays as it is.
+ * Ends the arena: its bytes are the caller's for anything, as to be given back or
+ * to be written to a file as a whole, and every call refuses it. The pool's
+ * records stay as they are. Only a watched program needs it.
  */
 static inline void lensember_arena_close(struct lensember_arena *arena);
 
