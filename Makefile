@@ -119,7 +119,8 @@ $(SHARED): $(SHARED_SOURCES:%.c=build/%.o)
 	$(AR) rcs $@ $^
 
 # Linked anew each time: LIB may have been another archive before.
-build/damage build/series build/replays build/exchange: build/%: build/tests/%.o $(SHARED) $(LIB)
+build/damage build/series build/replays build/exchange build/stack: build/%: build/tests/%.o \
+		$(SHARED) $(LIB)
 	$(CC) $(CFLAGS) $^ -o $@
 
 build/program build/maps build/texts: build/%: build/tests/%.o $(SHARED)
@@ -169,6 +170,9 @@ damage-test series-test replays-test exchange-test: %-test: build/%
 
 seeds-test: build/seeds
 	build/seeds fuzz/seeds/*
+
+stack-test: build/stack
+	build/stack README.md
 
 program-test: build/program $(PROGRAM)
 	build/program $(PROGRAM)
@@ -261,5 +265,6 @@ clean:
 
 .PHONY: all test host-test list-tests long-test php-test fuzz bench run map picture import first
 .PHONY: editor install uninstall clean
-.PHONY: build/damage build/series build/replays build/exchange build/seeds build/boundary build/php
+.PHONY: build/damage build/series build/replays build/exchange build/stack build/seeds
+.PHONY: build/boundary build/php
 .PHONY: build/check build/calls build/replaying build/exchanging build/first build/editor
