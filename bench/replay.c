@@ -38,9 +38,8 @@ static const struct kind kinds[] = {
     {"half full, to 40,000, resized", 0, 1, 40000, 1, 1},
 };
 
-static uint64_t bits[MAX_CHUNKS * BIT_WORDS];
-static uint32_t words[MAX_CHUNKS * PAGES];
-static uint64_t slots[MAX_CHUNKS * SLOT_WORDS];
+static LENSEMBER_POOL_MEMORY(MAX_CHUNKS) records;
+static struct lensember_pool pool;
 
 static uint8_t log_bytes[4 + 7 * (2 * MOST_LIVE + 2 * PAIRS) + 3];
 static size_t log_length;
@@ -156,36 +155,47 @@ static void write_log(const struct kind *kind, size_t c)
 /* ---- What is timed ------------------------------------------------------- */
 
 /* The shorter log is cut before the pairs, and is refused 8 there. */
-static void replay(size_t c, size_t length)
+static void replay(size_t length)
 {
-    struct lensember_replayed r = lensember_replay(c, bits, c * BIT_WORDS, words, c * PAGES,
-                                                   slots, c * SLOT_WORDS, log_bytes, length);
+    struct lensember_replayed r = lensember_pool_replay(&pool, log_bytes, length);
 
     if (r.refusal != (length == log_length ? LENSEMBER_OK : LENSEMBER_CUT_LOG)) {
-        fprintf(stderr, "replay: refused %u at %llu\n", (unsigned)r.refusal, (unsigned long long)r.position);
+        fprintf(stderr, "replay: refused %u at %llu\n", (unsigned)r.refusal,
+                (unsigned long long)r.position);
         exit(2);
     }
 }
 
-static void plain(size_t c, size_t length)
+static void lines(void)
 {
-    if (plain_replay((unsigned)c, log_bytes, length) != (length == log_length ? 0 : 8)) {
+    static uint8_t out[LENSEMBER_LINES_ROOM(sizeof log_bytes)];
+    struct lensember_printed r =
+        lensember_pool_lines(&pool, log_bytes, log_length, out, sizeof out);
+
+    if (r.refusal != LENSEMBER_OK) {
+        fprintf(stderr, "replay: the log has no lines\n");
+        exit(2);
+    }
+}
+
+static void plain(size_t length)
+{
+    if (plain_replay((unsigned)pool.c, log_bytes, length) != (length == log_length ? 0 : 8)) {
         fprintf(stderr, "replay: the plain pool refuses the log\n");
         exit(2);
     }
 }
 
 /* Both pools end with the same blocks. */
-static void compare(size_t c)
+static void compare(void)
 {
     static uint64_t room[2 * MOST_LIVE];
     uint64_t places, sum = 0;
     struct lensember_counted n;
 
-    replay(c, log_length);
-    plain(c, log_length);
-    n = lensember_census(c, bits, c * BIT_WORDS, words, c * PAGES, slots, c * SLOT_WORDS,
-                         room, sizeof room / sizeof room[0]);
+    replay(log_length);
+    plain(log_length);
+    n = lensember_pool_census(&pool, room, sizeof room / sizeof room[0]);
     for (size_t i = 0; i < n.count; i++)
         sum += room[2 * i];
     if (n.refusal != LENSEMBER_OK || n.count != plain_live(&places) || sum != places) {
@@ -196,7 +206,7 @@ static void compare(size_t c)
 
 struct times {
     double replay, replay_before; /* the whole log, and the log before the pairs */
-    double plain, tuned;
+    double lines, plain, tuned;
     double php, malloc;           /* the pairs */
 };
 
@@ -219,25 +229,28 @@ static void time_others(struct times *best)
     drop_malloc(live_before_pairs);
 }
 
-static struct times time_all(const struct kind *kind, size_t c)
+static struct times time_all(const struct kind *kind)
 {
-    struct times best = {1e9, 1e9, 1e9, 1e9, 1e9, 1e9};
+    struct times best = {1e9, 1e9, 1e9, 1e9, 1e9, 1e9, 1e9};
 
     for (unsigned i = 0; i < ROUNDS; i++) {
         double start = seconds_now();
 
-        replay(c, log_length);
+        replay(log_length);
         keep_shortest(&best.replay, start);
         start = seconds_now();
-        replay(c, before_pairs);
+        replay(before_pairs);
         keep_shortest(&best.replay_before, start);
+        start = seconds_now();
+        lines();
+        keep_shortest(&best.lines, start);
         plain_tune(0);
         start = seconds_now();
-        plain(c, log_length);
+        plain(log_length);
         keep_shortest(&best.plain, start);
         plain_tune(1);
         start = seconds_now();
-        plain(c, log_length);
+        plain(log_length);
         keep_shortest(&best.tuned, start);
         if (!kind->resizes)
             time_others(&best);
@@ -260,12 +273,14 @@ static void print_row(const struct kind *kind, size_t c)
     double fields, pair;
 
     write_log(kind, c);
-    compare(c);
-    t = time_all(kind, c);
+    pool = lensember_pool_at(c, &records, LENSEMBER_POOL_BYTES(c));
+    compare();
+    t = time_all(kind);
     fields = (double)log_fields;
     pair = (t.replay - t.replay_before) / PAIRS;
-    printf("%-36s %2u %6.1f %7.1f %5.2f %6.1f %5.2f %7.1f", kind->name, (unsigned)c, t.replay / fields * 1e9,
-           t.plain / fields * 1e9, t.replay / t.plain, t.tuned / fields * 1e9, t.replay / t.tuned, pair * 1e9);
+    printf("%-36s %2u %6.1f %6.1f %7.1f %5.2f %6.1f %5.2f %7.1f", kind->name, (unsigned)c,
+           t.replay / fields * 1e9, t.lines / fields * 1e9, t.plain / fields * 1e9,
+           t.replay / t.plain, t.tuned / fields * 1e9, t.replay / t.tuned, pair * 1e9);
     print_other(t.php / PAIRS, pair, have_php() && !kind->resizes);
     print_other(t.malloc / PAIRS, pair, !kind->resizes);
     printf("\n");
@@ -273,12 +288,13 @@ static void print_row(const struct kind *kind, size_t c)
 
 int main(void)
 {
-    printf("%-36s  c  field   plain ratio  tuned ratio    pair    PHP ratio malloc ratio\n", "log");
+    printf("%-36s  c  field  lines   plain ratio  tuned ratio    pair    PHP ratio malloc ratio\n",
+           "log");
     for (size_t k = 0; k < sizeof kinds / sizeof kinds[0]; k++) {
         print_row(&kinds[k], 1);
         print_row(&kinds[k], MAX_CHUNKS);
     }
-    printf("nanoseconds a field, then a pair of a release and a reserve, or a resize; tuned is the\n"
-           "plain pool with side tables\n");
+    printf("nanoseconds a field, replayed and with its lines, then a pair of a release and a\n"
+           "reserve, or a resize; tuned is the plain pool with side tables\n");
     return 0;
 }
