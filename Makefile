@@ -14,8 +14,9 @@
 #   make fuzz          libFuzzer over all calls for FUZZ_SECONDS (300), from the
 #                      seeds in fuzz/; installs Debian's clang. What it finds is
 #                      put into build/, and build/seeds FILE runs it again
-#   make install       header, archive, pkg-config file, programs and man pages,
-#                      below PREFIX (/usr/local); DESTDIR is put before it
+#   make install       headers, archive, pkg-config and CMake files, programs and
+#                      man pages, below PREFIX (/usr/local); DESTDIR is put
+#                      before it
 #   make uninstall     removes what install put there
 #   make bench         the record check, then the other calls, against a plain OR
 #                      over the same records; GATE=1.5 makes it fail when the
@@ -43,7 +44,7 @@ LIB ?= build/liblensember.a
 PROGRAM ?= build/replay
 PREFIX ?= /usr/local
 DESTDIR ?=
-VERSION = 1.0
+VERSION = $(shell sed -n 's/^.define LENSEMBER_VERSION "\(.*\)"$$/\1/p' include/lensember.h)
 
 # What the sources need, whatever CFLAGS says.
 override CFLAGS += -std=c99 -pedantic
@@ -185,7 +186,7 @@ texts-test: build/texts build/import build/export
 	build/texts build/import build/export
 
 install-test: all
-	CC='$(CC)' LIB='$(LIB)' PROGRAM='$(PROGRAM)' tests/install.sh
+	CC='$(CC)' CXX='$(CXX)' LIB='$(LIB)' PROGRAM='$(PROGRAM)' tests/install.sh
 
 readme-test: all
 	tests/readme.sh
@@ -231,21 +232,30 @@ editor: build/editor
 	build/editor
 
 # What is installed, below PREFIX.
-INSTALLED = include/lensember.h lib/liblensember.a lib/pkgconfig/lensember.pc \
+CMAKE_FOLDER = lib/cmake/lensember
+INSTALLED = include/lensember.h include/lensember_arena.h \
+	lib/liblensember.a lib/pkgconfig/lensember.pc \
+	$(CMAKE_FOLDER)/lensember-config.cmake $(CMAKE_FOLDER)/lensember-config-version.cmake \
 	bin/lensember-replay bin/lensember-map bin/lensember-paint \
 	bin/lensember-import bin/lensember-export \
 	share/man/man1/lensember-replay.1 share/man/man1/lensember-map.1 \
 	share/man/man1/lensember-paint.1 share/man/man1/lensember-import.1 \
-	share/man/man1/lensember-export.1 share/man/man3/lensember.3
+	share/man/man1/lensember-export.1 \
+	share/man/man3/lensember.3 share/man/man3/lensember_arena.3
 ROOT = $(DESTDIR)$(PREFIX)
+
+# Writes an installed file from the one of packaging/ that leaves the prefix and
+# the version open.
+fill = sed 's|@PREFIX@|$(PREFIX)|; s|@VERSION@|$(VERSION)|' packaging/$(notdir $(1)).in \
+	>'$(ROOT)'/$(1) && chmod 644 '$(ROOT)'/$(1)
 
 install: all
 	install -d $(addprefix '$(ROOT)'/,$(sort $(dir $(INSTALLED))))
-	install -m 644 include/lensember.h '$(ROOT)'/include/
+	install -m 644 include/lensember.h include/lensember_arena.h '$(ROOT)'/include/
 	install -m 644 $(LIB) '$(ROOT)'/lib/liblensember.a
-	sed 's|@PREFIX@|$(PREFIX)|; s|@VERSION@|$(VERSION)|' lensember.pc.in \
-		>'$(ROOT)'/lib/pkgconfig/lensember.pc
-	chmod 644 '$(ROOT)'/lib/pkgconfig/lensember.pc
+	$(call fill,lib/pkgconfig/lensember.pc)
+	$(call fill,$(CMAKE_FOLDER)/lensember-config-version.cmake)
+	install -m 644 packaging/lensember-config.cmake '$(ROOT)'/$(CMAKE_FOLDER)/
 	install -m 755 $(PROGRAM) '$(ROOT)'/bin/lensember-replay
 	install -m 755 build/map '$(ROOT)'/bin/lensember-map
 	install -m 755 build/paint '$(ROOT)'/bin/lensember-paint
@@ -255,10 +265,13 @@ install: all
 		'$(ROOT)'/share/man/man1/
 	install -m 644 man/lensember-map.1 '$(ROOT)'/share/man/man1/lensember-paint.1
 	install -m 644 man/lensember-import.1 '$(ROOT)'/share/man/man1/lensember-export.1
-	install -m 644 man/lensember.3 '$(ROOT)'/share/man/man3/
+	install -m 644 man/lensember.3 man/lensember_arena.3 '$(ROOT)'/share/man/man3/
 
+# The folder of the CMake files is the library's own, all others are shared.
 uninstall:
 	rm -f $(addprefix '$(ROOT)'/,$(INSTALLED))
+	[ ! -d '$(ROOT)'/$(CMAKE_FOLDER) ] || \
+		rmdir --ignore-fail-on-non-empty '$(ROOT)'/$(CMAKE_FOLDER)
 
 clean:
 	rm -rf build
