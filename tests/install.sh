@@ -193,6 +193,14 @@ runs_editor() {
         diff tests/editor.out "$work/lines"
 }
 
+# No data of its own, and nothing of libc but to copy and to fill memory: so calls
+# on two pools may run in two threads, and there is little to bring to a handheld.
+has_no_state() {
+    ! nm "$prefix/lib/liblensember.a" | grep ' [BbCDd] ' &&
+        [ "$(nm -u "$prefix/lib/liblensember.a" | awk '/ U / { print $2 }' | sort -u | xargs)" = \
+            'memcpy memset' ]
+}
+
 # ---- The programs ----------------------------------------------------------------
 
 # The sample log (RULES 12.3); its lines are those that the gate holds the program to.
@@ -296,6 +304,7 @@ mkdir "$linked"
 ln -s "$prefix/lib" "$linked/lib"
 check cmake-by-link by_cmake C pie "$linked"
 
+check archive-without-state has_no_state
 check example-first runs_first
 check example-editor runs_editor
 check replay-sample replays_sample
