@@ -120,9 +120,17 @@ $(SHARED): $(SHARED_SOURCES:%.c=build/%.o)
 	$(AR) rcs $@ $^
 
 # Linked anew each time: LIB may have been another archive before.
-build/damage build/series build/replays build/exchange build/stack: build/%: build/tests/%.o \
-		$(SHARED) $(LIB)
-	$(CC) $(CFLAGS) $^ -o $@
+build/damage build/series build/replays build/exchange build/stack build/arena build/arena-asan \
+		build/arena-valgrind: build/%: build/tests/%.o $(SHARED) $(LIB)
+	$(CC) $(CFLAGS) $(WATCH) $^ -o $@
+
+# The arena's test also where AddressSanitizer and valgrind watch it.
+build/arena-asan build/tests/arena-asan.o: WATCH = -g -fsanitize=address
+build/arena-valgrind build/tests/arena-valgrind.o: WATCH = -g -DLENSEMBER_VALGRIND
+
+build/tests/arena-asan.o build/tests/arena-valgrind.o: tests/arena.c $(HEADERS) Makefile
+	@mkdir -p $(@D)
+	$(CC) $(CFLAGS) $(WATCH) $(INCLUDES) -c $< -o $@
 
 build/program build/maps build/texts: build/%: build/tests/%.o $(SHARED)
 	$(CC) $(CFLAGS) $^ -o $@
@@ -169,6 +177,16 @@ list-tests:
 damage-test series-test replays-test exchange-test: %-test: build/%
 	build/$*
 
+# All three.
+arena-test: build/arena arena-asan-test arena-valgrind-test
+	build/arena
+
+arena-asan-test: build/arena-asan
+	build/arena-asan
+
+arena-valgrind-test: build/arena-valgrind
+	valgrind -q --error-exitcode=9 build/arena-valgrind 1 400
+
 seeds-test: build/seeds
 	build/seeds fuzz/seeds/*
 
@@ -187,6 +205,9 @@ texts-test: build/texts build/import build/export
 
 install-test: all
 	CC='$(CC)' CXX='$(CXX)' LIB='$(LIB)' PROGRAM='$(PROGRAM)' tests/install.sh
+
+mistakes-test: $(LIB)
+	CC='$(CC)' LIB='$(LIB)' tests/mistakes.sh
 
 readme-test: all
 	tests/readme.sh
@@ -279,5 +300,5 @@ clean:
 .PHONY: all test host-test list-tests long-test php-test fuzz bench run map picture import first
 .PHONY: editor install uninstall clean
 .PHONY: build/damage build/series build/replays build/exchange build/stack build/seeds
-.PHONY: build/boundary build/php
+.PHONY: build/arena build/arena-asan build/arena-valgrind build/boundary build/php
 .PHONY: build/check build/calls build/replaying build/exchanging build/first build/editor

@@ -827,13 +827,6 @@ static void start_after_drops(struct twin *twin, unsigned b)
     twin_settle(twin);
 }
 
-/* Few calls fill a pool. */
-static uint64_t filling_size(unsigned b)
-{
-    (void)b;
-    return rng_below(&rng, 2) ? draw_size_of_class(20 + rng_below(&rng, 10)) : draw_large_size(30);
-}
-
 /* Around the lengths of the gaps that there are. */
 static uint64_t piece_size(unsigned b)
 {
@@ -860,7 +853,7 @@ static const struct mix mixes[] = {
     {"small-sizes", start_anyhow, draw_mostly_small, 50, 30, 10, 60, 4, false},
     {"all-sizes", start_anyhow, draw_any_size, 45, 35, 10, 60, 4, false},
     {"large-only", start_anyhow, draw_large_only, 43, 37, 10, 60, 4, false},
-    {"fill-up-then-drain", start_at_a_tide, filling_size, 75, 10, 5, 200, 4, true},
+    {"fill-up-then-drain", start_at_a_tide, draw_filling, 75, 10, 5, 200, 4, true},
     {"one-class-only", start_with_class, draw_mostly_class, 45, 40, 5, 60, 4, false},
     {"fragmented", start_in_pieces, piece_size, 40, 40, 10, 60, 4, false},
     {"after-drops", start_after_drops, row_or_table, 40, 30, 20, 100, 120, false},
@@ -882,14 +875,6 @@ static uint64_t any_place(const struct twin *twin, const uint64_t recent[16])
     default:
         return draw_live_place(&twin->model);
     }
-}
-
-/* A tide turns when there is no room, or next to nothing is left. */
-static bool next_tide(const struct twin *twin, bool filling, uint64_t refusal)
-{
-    if (filling)
-        return refusal != 4;
-    return twin->model.live.count < 4;
 }
 
 /* A census of many blocks takes long and is asked for less often. */
@@ -931,7 +916,7 @@ static void run_series(struct twin *twin, const struct mix *mix, unsigned b, uns
         read_back(twin, i);
         recent[i % 16] = place;
         if (mix->tides)
-            filling = next_tide(twin, filling, refusal);
+            filling = next_tide(&twin->model, filling, refusal);
     }
 }
 

@@ -102,6 +102,20 @@ uint64_t draw_large_only(unsigned b)
     return draw_large_size(most[rng_below(&rng, COUNT(most))]);
 }
 
+uint64_t draw_filling(unsigned b)
+{
+    (void)b;
+    return rng_below(&rng, 2) ? draw_size_of_class(20 + rng_below(&rng, 10)) : draw_large_size(30);
+}
+
+/* A tide turns when there is no room, or next to nothing is left. */
+bool next_tide(const struct pool *pool, bool filling, uint64_t refusal)
+{
+    if (filling)
+        return refusal != 4;
+    return pool->live.count < 4;
+}
+
 uint64_t draw_mostly_class(unsigned b)
 {
     return rng_below(&rng, 64) ? draw_size_of_class(b) : draw_any_size(b);
