@@ -174,15 +174,8 @@ host-test: all $(TESTS:%=%-test)
 list-tests:
 	@echo $(TESTS)
 
-damage-test series-test replays-test exchange-test: %-test: build/%
+damage-test series-test replays-test exchange-test arena-test arena-asan-test: %-test: build/%
 	build/$*
-
-# All three.
-arena-test: build/arena arena-asan-test arena-valgrind-test
-	build/arena
-
-arena-asan-test: build/arena-asan
-	build/arena-asan
 
 arena-valgrind-test: build/arena-valgrind
 	valgrind -q --error-exitcode=9 build/arena-valgrind 1 400

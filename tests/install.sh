@@ -5,8 +5,9 @@
 #
 # Prints a line for each check and at last 'install: N passed, M failed'.
 # CC, CXX, LIB and PROGRAM are make's.
-set -u
 cd "$(dirname "$0")/.."
+test=install
+. tests/harness/checks.sh
 
 export CC="${CC:-gcc}" CXX="${CXX:-g++}"
 LIB=${LIB:-build/liblensember.a}
@@ -18,28 +19,9 @@ CXX_STRICT="-std=c++11 $WARNINGS"
 # What tools print, and how names are sorted, is the same for everyone.
 export LC_ALL=C
 
-work=$(mktemp -d)
-trap 'rm -rf "$work"' EXIT
 prefix=$work/prefix
 linked=$work/linked
 stage=$work/stage
-
-passed=0
-failed=0
-
-# Counts one check by the status of its command, whose output is shown if it fails.
-check() {
-    name=$1
-    shift
-    if "$@" >"$work/out" 2>&1; then
-        echo "ok install/$name"
-        passed=$((passed + 1))
-    else
-        echo "FAIL install/$name"
-        cat "$work/out"
-        failed=$((failed + 1))
-    fi
-}
 
 put() {
     make --no-print-directory LIB="$LIB" PROGRAM="$PROGRAM" "$@"
@@ -332,5 +314,4 @@ check cmake-destdir by_cmake C pie "$stage/usr"
 check uninstall-destdir put PREFIX=/usr DESTDIR="$stage" uninstall
 check nothing-left-destdir has_nothing "$stage"
 
-echo "install: $passed passed, $failed failed"
-[ "$failed" -eq 0 ]
+conclude

@@ -6,34 +6,15 @@
 #
 # Prints a line for each check and at last 'mistakes: N passed, M failed'.
 # CC and LIB are make's.
-set -u
 cd "$(dirname "$0")/.."
+test=mistakes
+. tests/harness/checks.sh
 
 CC=${CC:-gcc}
 LIB=${LIB:-build/liblensember.a}
 STRICT='-std=c99 -Wall -Wextra -pedantic -Werror'
 
 unset ASAN_OPTIONS VALGRIND_OPTS
-
-work=$(mktemp -d)
-trap 'rm -rf "$work"' EXIT
-
-passed=0
-failed=0
-
-# Counts one check by the status of its command, whose output is shown if it fails.
-check() {
-    name=$1
-    shift
-    if "$@" >"$work/out" 2>&1; then
-        echo "ok mistakes/$name"
-        passed=$((passed + 1))
-    else
-        echo "FAIL mistakes/$name"
-        cat "$work/out"
-        failed=$((failed + 1))
-    fi
-}
 
 # ---- Programs ----------------------------------------------------------------
 
@@ -130,5 +111,4 @@ done
 check asan/editor runs_editor asan
 check valgrind/editor runs_editor valgrind
 
-echo "mistakes: $passed passed, $failed failed"
-[ "$failed" -eq 0 ]
+conclude

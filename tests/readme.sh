@@ -4,14 +4,9 @@
 # the lines below it. Only ./test is passed over, which runs this.
 #
 # Prints a line for each command and at last 'readme: N passed, M failed'.
-set -u
 cd "$(dirname "$0")/.."
-
-work=$(mktemp -d)
-trap 'rm -rf "$work"' EXIT
-
-passed=0
-failed=0
+test=readme
+. tests/harness/checks.sh
 
 # A program between ```c and ``` goes to the file that the text before it names.
 mkdir -p build
@@ -28,19 +23,13 @@ awk -v work="$work" '
     inside && /^    / { sub(/^    /, ""); print > (work "/" n ".expected"); next }
     { inside = 0 }' README.md
 
-for command in $(ls "$work" | grep 'command$' | sort -n); do
-    block=$work/${command%.command}
-    line=$(cat "$block.command")
-    [ "$line" = ./test ] && continue
-    if sh -c "$line" >"$block.printed" 2>"$block.errors" && diff "$block.expected" "$block.printed" >"$block.diff"; then
-        printf 'ok readme: %s\n' "$line"
-        passed=$((passed + 1))
-    else
-        printf 'FAIL readme: %s\n' "$line"
-        cat "$block.diff" "$block.errors"
-        failed=$((failed + 1))
-    fi
-done
+# The command prints on standard output what is expected, and ends well.
+says_so() {
+    sh -c "$(cat "$1.command")" >"$1.printed" && diff "$1.expected" "$1.printed"
+}
 
-echo "readme: $passed passed, $failed failed"
-[ "$failed" -eq 0 ]
+for command in $(ls "$work" | grep 'command$' | sort -n); do
+    line=$(cat "$work/$command")
+    [ "$line" = ./test ] || check "$line" says_so "$work/${command%.command}"
+done
+conclude
