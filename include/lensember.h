@@ -91,7 +91,7 @@
 #define LENSEMBER_FREE_SLOT 6  /* a slot starts there and is free */
 #define LENSEMBER_SHORT_ROOM 7 /* less room was lent than what is to be written needs */
 #define LENSEMBER_CUT_LOG 8    /* a log ends inside a field or before its end field */
-#define LENSEMBER_BAD_FIELD 9  /* a log field is unknown, of wrong length, out of turn or unwritable */
+#define LENSEMBER_BAD_FIELD 9  /* a field is unknown, of wrong length, out of turn or unwritable */
 #define LENSEMBER_BAD_LINE 13  /* a line of a vendor's text is not one that is due */
 
 /* What a reserved block is. */

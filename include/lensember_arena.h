@@ -100,7 +100,8 @@ static inline uint64_t lensember_arena_fresh(struct lensember_arena *arena);
 /*
  * Takes note of the live blocks of a pool that was loaded, replayed or changed by
  * calls of its own: all bytes that these blocks were given may be used. Only a
- * watched program needs it. Answers as lensember_check.
+ * watched program needs it, in which it takes one lensember_next a block. Answers
+ * as lensember_check.
  */
 static inline uint64_t lensember_arena_sync(struct lensember_arena *arena);
 
@@ -120,8 +121,8 @@ static inline void lensember_arena_close(struct lensember_arena *arena);
 static inline void *lensember_alloc(struct lensember_arena *arena, size_t n);
 
 /*
- * Gives back the block that starts at this pointer; null is no block, and served.
- * Answers as lensember_release.
+ * Gives back the block that starts at this pointer. Answers as lensember_release;
+ * a null pointer is served, and nothing is done, whatever the arena is.
  */
 static inline uint64_t lensember_free(struct lensember_arena *arena, void *start);
 
@@ -167,10 +168,10 @@ static inline size_t lensember_usable_size(struct lensember_arena *arena, const 
  *   lensember_open_old    opens n bytes of a block that was written before
  *   lensember_open_kept   of a block with `size` bytes n are open now, the others shut
  *   lensember_shut_block  shuts a block of `size` bytes, which is live no longer
- *   lensember_opened      of the first n bytes of a block, how many are open?
+ *   lensember_copy        copies `copy` bytes of a block, open or not, to the n of a new one
  *   lensember_no_block    a pointer was given as a live block's, and is not
  *
- * Where nobody watches they do nothing, and all bytes of a block are open.
+ * Where nobody watches, copying is all that they do.
  */
 #if defined(LENSEMBER_ASAN)
 
@@ -209,11 +210,11 @@ static inline void lensember_open_kept(const struct lensember_arena *arena, void
     lensember_open_new(arena, start, n);
 }
 
-static inline size_t lensember_opened(void *start, size_t n)
+static inline void lensember_copy(void *to, void *from, size_t copy, size_t n)
 {
-    void *shut = __asan_region_is_poisoned(start, n);
-
-    return shut == NULL ? n : (size_t)((uintptr_t)shut - (uintptr_t)start);
+    (void)n;
+    __asan_unpoison_memory_region(from, copy);
+    memcpy(to, from, copy);
 }
 
 /* Not inlined: the report begins where this returns to. */
@@ -259,6 +260,7 @@ static inline void lensember_shut_block(const struct lensember_arena *arena, voi
     VALGRIND_MEMPOOL_FREE(arena->base, start);
 }
 
+/* Of the first n bytes of a block, how many are open? */
 static inline size_t lensember_opened(void *start, size_t n)
 {
     uintptr_t shut;
@@ -279,6 +281,17 @@ static inline void lensember_open_kept(const struct lensember_arena *arena, void
         (void)VALGRIND_MAKE_MEM_UNDEFINED((unsigned char *)start + opened, n - opened);
     else
         (void)VALGRIND_MAKE_MEM_NOACCESS((unsigned char *)start + n, opened - n);
+}
+
+/* What was shut counts as not written, as does what is new. */
+static inline void lensember_copy(void *to, void *from, size_t copy, size_t n)
+{
+    size_t opened = lensember_opened(from, copy);
+
+    VALGRIND_DISABLE_ERROR_REPORTING;
+    memcpy(to, from, copy);
+    VALGRIND_ENABLE_ERROR_REPORTING;
+    (void)VALGRIND_MAKE_MEM_UNDEFINED((unsigned char *)to + opened, n - opened);
 }
 
 /* It has no such block: this is its report of a bad free. */
@@ -318,10 +331,10 @@ static inline void lensember_shut_block(const struct lensember_arena *arena, voi
     (void)arena, (void)start, (void)size;
 }
 
-static inline size_t lensember_opened(void *start, size_t n)
+static inline void lensember_copy(void *to, void *from, size_t copy, size_t n)
 {
-    (void)start;
-    return n;
+    (void)n;
+    memcpy(to, from, copy);
 }
 
 #endif
@@ -350,18 +363,27 @@ static inline size_t lensember_expect_live(const struct lensember_arena *arena, 
 #endif
 }
 
+/* It has no chunk, and no byte, from now on. */
+static inline void lensember_end_arena(struct lensember_arena *arena)
+{
+    arena->pool = lensember_pool_at(0, NULL, 0);
+    arena->base = NULL;
+    arena->refusal = LENSEMBER_SHAPE;
+}
+
 static inline struct lensember_arena lensember_arena_at(struct lensember_pool pool, void *base,
                                                         size_t nbytes)
 {
     struct lensember_arena arena;
 
-    if (nbytes != LENSEMBER_ARENA_BYTES(pool.c) || base == NULL || (uintptr_t)base % 8 != 0)
-        pool = lensember_pool_at(0, NULL, 0);
     arena.pool = pool;
     arena.base = (unsigned char *)base;
-    arena.refusal = pool.c == 0 ? LENSEMBER_SHAPE : LENSEMBER_OK;
-    if (arena.refusal == LENSEMBER_OK)
+    arena.refusal = LENSEMBER_OK;
+    if (pool.c != 0 && nbytes == LENSEMBER_ARENA_BYTES(pool.c) && base != NULL
+            && (uintptr_t)base % 8 == 0)
         lensember_shut_arena(&arena);
+    else
+        lensember_end_arena(&arena);
     return arena;
 }
 
@@ -393,8 +415,7 @@ static inline uint64_t lensember_arena_sync(struct lensember_arena *arena)
 static inline void lensember_arena_close(struct lensember_arena *arena)
 {
     lensember_open_arena(arena);
-    arena->pool = lensember_pool_at(0, NULL, 0);
-    arena->refusal = LENSEMBER_SHAPE;
+    lensember_end_arena(arena);
 }
 
 static inline void *lensember_alloc(struct lensember_arena *arena, size_t n)
@@ -443,7 +464,7 @@ static inline void *lensember_realloc(struct lensember_arena *arena, void *start
     }
     moved = arena->base + block.place;
     lensember_open_new(arena, moved, n);
-    memcpy(moved, start, lensember_opened(start, (size_t)block.copy));
+    lensember_copy(moved, start, (size_t)block.copy, n);
     lensember_shut_block(arena, start, size);
     return moved;
 }

@@ -31,8 +31,9 @@
 
 /*
  * open_at: may this byte be read and written? all_written: do these open bytes all
- * count as written, or else none of them, as far as the watcher knows? A review
- * looks at every byte of an arena of up to so many chunks.
+ * count as written, or else none of them, as far as the watcher knows? shut_own:
+ * shuts bytes inside a block, as a program may. A review looks at every byte of an
+ * arena of up to so many chunks.
  */
 #if defined(LENSEMBER_ASAN)
 
@@ -48,6 +49,11 @@ static bool all_written(const unsigned char *start, size_t n, bool written)
 {
     (void)start, (void)n, (void)written;
     return true;
+}
+
+static void shut_own(const unsigned char *start, size_t n)
+{
+    __asan_poison_memory_region(start, n);
 }
 
 #elif defined(LENSEMBER_VALGRIND)
@@ -70,6 +76,12 @@ static bool all_written(const unsigned char *start, size_t n, bool written)
     return VALGRIND_GET_VBITS(start, bits, n) == 1 && memcmp(bits, right, n) == 0;
 }
 
+/* They would count as not written. */
+static void shut_own(const unsigned char *start, size_t n)
+{
+    (void)start, (void)n;
+}
+
 #else
 
 #define PROGRAM "arena"
@@ -85,6 +97,11 @@ static bool all_written(const unsigned char *start, size_t n, bool written)
 {
     (void)start, (void)n, (void)written;
     return true;
+}
+
+static void shut_own(const unsigned char *start, size_t n)
+{
+    (void)start, (void)n;
 }
 
 #endif
@@ -559,7 +576,7 @@ static void expect_refused_all(struct lensember_arena *arena, uint64_t number, u
 
 static void expect_no_arena(struct lensember_arena arena, unsigned char *base)
 {
-    expect(arena.refusal == 1, "it is an arena");
+    expect(arena.pool.c == 0 && arena.refusal == 1, "it is an arena");
     expect(lensember_arena_fresh(&arena) == 1 && arena.refusal == 1, "fresh");
     expect(lensember_arena_sync(&arena) == 1 && arena.refusal == 1, "sync");
     expect_refused_all(&arena, 1, base);
@@ -591,6 +608,7 @@ static void expect_no_pool(struct lensember_pool pool)
         lensember_pool_lines(&pool, log, sizeof log, out, sizeof out).refusal,
     };
 
+    expect(pool.c == 0, "it is a pool of %" PRIu64 " chunks", pool.c);
     for (size_t i = 0; i < COUNT(refusals); i++)
         expect(refusals[i] == 1, "call %zu is answered %" PRIu64, i, refusals[i]);
     group.trials += COUNT(refusals);
@@ -652,11 +670,10 @@ static void try_arenas(struct yard *yard)
     const size_t lengths[] = {
         0, exact - CHUNK_BYTES, exact - 8, exact - 1, exact + 1, exact + 8, exact + CHUNK_BYTES,
         SIZE_MAX};
-    unsigned char *middle = yard->base + CHUNK_BYTES / 2;
 
     try_alloc(yard, 24);
     for (size_t i = 0; i < COUNT(lengths); i++)
-        expect_no_arena(lensember_arena_at(yard->pool, middle, lengths[i]), yard->base);
+        expect_no_arena(lensember_arena_at(yard->pool, yard->base, lengths[i]), yard->base);
     for (size_t shift = 1; shift < 8; shift++)
         expect_no_arena(lensember_arena_at(yard->pool, yard->base + shift, exact), yard->base);
     expect_no_arena(lensember_arena_at(yard->pool, NULL, exact), yard->base);
@@ -783,6 +800,21 @@ static void test_sample(void)
     expect_realloc(yard, 24576, 24, 4144);
     expect_realloc(yard, 4144, 0, 20488);
     review(yard);
+    group_end();
+    yard_free(yard);
+}
+
+/* What a program has shut inside a block goes with the block when it is moved. */
+static void test_shut_own(void)
+{
+    struct yard *yard = yard_new(1, 0);
+    uint64_t place;
+
+    group_begin("sample", "bytes-shut-by-the-program");
+    place = try_alloc(yard, 100).place;
+    write_all(yard, place);
+    shut_own(at(yard, place) + 40, 16);
+    expect_realloc(yard, place, 5000, 8192);
     group_end();
     yard_free(yard);
 }
@@ -1207,9 +1239,9 @@ static void compare_forms(struct lensember_pool *pool, const struct records *pla
                 library_reserve(plain, 300));
     EXPECT_SAME("resize", struct lensember_resized, lensember_pool_resize(pool, place, 5000),
                 library_resize(plain, place, 5000));
-    EXPECT_SAME("next", struct lensember_found, lensember_pool_next(pool, place + 1),
-                library_next(plain, place + 1));
     place = library_next(plain, 0).place;
+    EXPECT_SAME("next", struct lensember_found, lensember_pool_next(pool, place),
+                library_next(plain, place));
     EXPECT_SAME("block size", struct lensember_sized, lensember_pool_block_size(pool, place),
                 library_block_size(plain, place));
     EXPECT_SAME("bytes", struct lensember_part, lensember_pool_bytes(pool, 0, place, arena, 1),
@@ -1275,6 +1307,7 @@ int main(int argc, char **argv)
     test_pool_forms();
     test_refused();
     test_sample();
+    test_shut_own();
     test_alignment(calls < 8192 ? 61 : 1);
     test_bad_pointers();
     test_series(calls);

@@ -66,11 +66,17 @@ refusal_of() {
     sed -n "s|.*/\* mistake: $1, \(refused [56]\) \*/|\1|p" tests/mistakes.c
 }
 
-# Where the mistake was made, without where the block came from or went to: up to
-# an empty line, or to what valgrind says of the address.
+# Each word of the program but none is that of a mistake.
+marks_each_word() {
+    sed -n 's|.*{"\([a-z-]*\)", .*|\1|p' tests/mistakes.c | sort >"$work/words"
+    { echo none && words; } | sort | diff "$work/words" -
+}
+
+# The first thing that is told: where the mistake was made, without where the block
+# came from or went to. That is up to an empty line, or to what valgrind says of the
+# address.
 first_stack() {
-    sed -n '/ERROR: AddressSanitizer\|Invalid/,$p' "$work/report" |
-        sed '/^$/q; /^==[0-9]*==  *Address /q; /^==[0-9]*== *$/q'
+    sed '/^$/q; /^==[0-9]*==  *Address /q; /^==[0-9]*== *$/q' "$work/report"
 }
 
 # The first line of the source in it is that of the mistake.
@@ -97,6 +103,7 @@ runs_editor() {
     [ "$status" -eq 0 ] && [ ! -s "$work/report" ] && diff tests/editor.out "$work/printed"
 }
 
+check words marks_each_word
 for level in O0 O2; do
     for watcher in nobody asan valgrind; do
         told=is_told
