@@ -32,7 +32,7 @@ struct ear {
 
 static struct ear left, right;
 
-/* Ends the program where a call was refused that this editor never expects to be. */
+/* Ends the program when a call is refused that should not be. */
 static void must(uint64_t refusal, const char *call)
 {
     if (refusal == LENSEMBER_OK)
@@ -90,7 +90,7 @@ static void release(struct ear *ear, void *start)
     note(ear, LENSEMBER_RELEASE, place, 0);
 }
 
-/* Where the block starts now. Its bytes are there, the old pointer is none any more. */
+/* Answers where the block starts now, with its bytes. The old pointer must not be used. */
 static void *resize(struct ear *ear, void *start, size_t size)
 {
     uint64_t place = block_at(ear, start).place;
@@ -246,7 +246,7 @@ static void print_totals(const struct ear *ear)
            ear->name, sums.blocks, sums.bytes, sums.free_pages);
 }
 
-/* Of the dropped rows the pages are free again for anything, not for rows alone. */
+/* The pages of dropped rows are free for anything again, not only for rows. */
 static void sweep(struct ear *ear)
 {
     struct lensember_swept swept = lensember_pool_sweep(&ear->arena.pool);
@@ -293,7 +293,7 @@ static void list_by_next(const struct ear *ear)
 
 /*
  * A refused call changes nothing, so a mistake costs nothing. These are made on
- * the pool, by places: lensember_free would have a watched program stopped there.
+ * the pool, by places: of lensember_free a watched program would have a report.
  */
 static void make_mistakes(struct ear *ear, uint64_t dropped, uint64_t live)
 {
@@ -309,7 +309,7 @@ static void make_mistakes(struct ear *ear, uint64_t dropped, uint64_t live)
            lensember_pool_resize(pool, dropped, 2 * sizeof(struct row)).refusal);
 }
 
-/* Every call on a pool looks at all its records first. */
+/* Each of these looks at all records first. */
 static void try_all_calls(struct ear *ear, uint64_t live)
 {
     struct lensember_pool *pool = &ear->arena.pool;
@@ -362,20 +362,28 @@ static void close_log(struct ear *ear)
            memcmp(&again, &ear->records, sizeof again) == 0 ? "the same" : "other");
 }
 
-/* A pool as the other vendor's editor left it: the ear's starts anew from its log. */
+/* The ear's pool becomes the one that the other vendor's text describes, if it is a good one. */
 static void take_text(struct ear *ear, const char *text)
 {
-    struct lensember_imported log = lensember_import((const uint8_t *)text, strlen(text), ear->log,
-                                                     sizeof ear->log);
+    static uint8_t taken[LOG_BYTES];
+    struct lensember_imported log = lensember_import((const uint8_t *)text, strlen(text), taken,
+                                                     sizeof taken);
+    struct lensember_replayed replayed;
 
     if (log.refusal == LENSEMBER_BAD_LINE) {
         printf("%s ear: the text is refused, line %" PRIu64 " is bad\n", ear->name, log.line);
         return;
     }
     must(log.refusal, "import");
-    ear->logged = log.length;
-    must(lensember_pool_replay(&ear->arena.pool, ear->log, (size_t)ear->logged).refusal, "replay");
+    replayed = lensember_pool_replay(&ear->arena.pool, taken, (size_t)log.length);
+    if (replayed.refusal == LENSEMBER_BAD_FIELD) {
+        printf("%s ear: the text is refused, its pool is not of %d chunks\n", ear->name, CHUNKS);
+        return;
+    }
+    must(replayed.refusal, "replay");
     must(lensember_arena_sync(&ear->arena), "sync");
+    memcpy(ear->log, taken, (size_t)log.length);
+    ear->logged = log.length;
     printf("%s ear: a pool from a text, by a log of %" PRIu64 " bytes\n", ear->name, ear->logged);
 }
 
@@ -432,6 +440,7 @@ int main(void)
 
     give_text(&left);
     take_text(&right, "pool 2\n+24\n+024\n");
+    take_text(&right, "pool 3\n+24\n");
     take_text(&right, "pool 2\n+24\n+24\n+8192\n-4096\n");
     print_totals(&right);
     give_text(&right);

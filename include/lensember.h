@@ -18,11 +18,11 @@
  *   lensember_pool_fresh(&pool);
  *   struct lensember_reserved row = lensember_pool_reserve(&pool, 24);
  *
- * Each call has two forms, of one description: lensember_pool_NAME on a pool,
- * and lensember_NAME on its records as plain buffers. Whatever a later version
- * keeps of a pool becomes a part of the pool: a program that makes its pools by
+ * Each call on a pool has two forms, of one description: lensember_pool_NAME on
+ * the pool, and lensember_NAME on its records as plain buffers. Whatever a later
+ * version keeps of a pool becomes a part of it: a program that makes its pools by
  * lensember_pool_at compiles unchanged then. <lensember_arena.h> allocates from
- * a pool by pointers.
+ * a pool by pointers. Both headers are C99, and C++.
  *
  * The three buffers of a pool, each with one part a chunk, lengths counted in
  * elements:
@@ -132,8 +132,9 @@ extern "C" {
 
 /*
  * A pool: how many chunks it has, and its records. It is made by
- * lensember_pool_at, may be copied, and needs no end: the memory that it was
- * made on is the caller's. Two copies are the same pool.
+ * lensember_pool_at, and before that, also where it is all zero, it is nothing to
+ * call on. It may be copied, and two copies are the same pool. It needs no end:
+ * the memory that it was made on is the caller's.
  */
 struct lensember_pool {
     uint64_t c; /* chunks, 1 to 16 */
@@ -143,8 +144,8 @@ struct lensember_pool {
 };
 
 /*
- * Bytes of memory for the records of a pool of c chunks, 34,880 a chunk. They are
- * aligned as a uint64_t is, so malloc's are.
+ * Bytes of memory for the records of a pool of c chunks, 34,880 a chunk. They
+ * start at a multiple of 8, as malloc's do.
  */
 #define LENSEMBER_POOL_BYTES(c)                                \
     ((size_t)(c)                                               \
@@ -166,11 +167,12 @@ struct lensember_pool {
 /*
  * The pool of c chunks whose records lie in `memory`, nbytes of them. Nothing is
  * read or written: make it fresh, replay a log, or go on with the records that
- * lie there. To save a pool save these bytes.
+ * lie there. To save a pool save these bytes; another version may have more of
+ * them, so what is to outlive a version is the log.
  *
  * Where c is not 1 to 16, nbytes is not LENSEMBER_POOL_BYTES(c), or memory is
- * null or not aligned, it is a pool of no chunk, which every call refuses by
- * LENSEMBER_SHAPE; so the answer of malloc need not be looked at before.
+ * null or not a multiple of 8, it is a pool of no chunk, which every call refuses
+ * by LENSEMBER_SHAPE; so the answer of malloc need not be looked at before.
  */
 static inline struct lensember_pool lensember_pool_at(uint64_t c, void *memory, size_t nbytes)
 {

@@ -12,22 +12,25 @@
  *   lensember_arena_fresh(&arena);
  *   struct row *row = lensember_alloc(&arena, sizeof *row);
  *
- * There is nothing to link but the library: a function here is one or two calls
- * on the pool and costs what they cost.
+ * There is nothing to link but the library. An alloc is one call on the pool, and
+ * so is a free; a realloc is one, and a copy of the bytes where the block is moved.
  *
  * A pointer is the arena's base plus the place of the block. It is aligned for
- * every object whose size was asked for, as far as the base is aligned for it.
- * The bytes of a new block hold anything.
+ * every object whose size was asked for, up to 4,096 and as far as the base is
+ * aligned for it. It is not always a multiple of 16, as malloc's are: the pointer
+ * to 24 bytes is one of 8. The bytes of a new block hold anything.
  *
- * Mistakes that show. Compiled with -fsanitize=address, or with LENSEMBER_VALGRIND
- * defined (which needs <valgrind/memcheck.h>) and run under valgrind, the bytes of
- * the arena that are not handed out are out of bounds, and so are those of a block
- * behind the size that was asked for: whoever reads or writes one is told, with
- * the line. So is whoever gives lensember_free or lensember_realloc a pointer that
- * is not a live block's. Without these two nothing is added.
+ * Mistakes that show. A program that is compiled with -fsanitize=address, or with
+ * LENSEMBER_VALGRIND defined (which needs <valgrind/memcheck.h>) and run under
+ * valgrind, is watched: the bytes of the arena that are not handed out are out of
+ * bounds, and so are those of a block behind the size that was asked for. Whoever
+ * reads or writes one is told, with the line. So is whoever gives lensember_free
+ * or lensember_realloc a pointer that is not a live block's. To any other program
+ * nothing is added. All files that use one arena are compiled alike, watched or
+ * not.
  *
- * Threads are as for a pool: two arenas, two threads; of one arena, the caller
- * locks.
+ * Threads. Two arenas, two threads. Of one arena only one call may run at a time,
+ * and the caller locks, also for those that ask: each call writes `refusal`.
  */
 #ifndef LENSEMBER_ARENA_H
 #define LENSEMBER_ARENA_H
@@ -294,9 +297,15 @@ static inline void lensember_copy(void *to, void *from, size_t copy, size_t n)
     (void)VALGRIND_MAKE_MEM_UNDEFINED((unsigned char *)to + opened, n - opened);
 }
 
-/* It has no such block: this is its report of a bad free. */
+/*
+ * Valgrind knows no such block, and reports a bad free. One that it knows, since
+ * the pool gave it back without a sync, is dropped first.
+ */
 static inline void lensember_no_block(const struct lensember_arena *arena, void *start)
 {
+    VALGRIND_DISABLE_ERROR_REPORTING;
+    VALGRIND_MEMPOOL_FREE(arena->base, start);
+    VALGRIND_ENABLE_ERROR_REPORTING;
     VALGRIND_MEMPOOL_FREE(arena->base, start);
 }
 
@@ -348,7 +357,7 @@ static inline uint64_t lensember_offset(const struct lensember_arena *arena, con
 }
 
 /* The size of a block that is to be given back or resized, where somebody watches. */
-static inline size_t lensember_expect_live(const struct lensember_arena *arena, void *start)
+static inline size_t lensember_needs_live_block(const struct lensember_arena *arena, void *start)
 {
 #ifdef LENSEMBER_UNWATCHED
     (void)arena, (void)start;
@@ -438,7 +447,7 @@ static inline uint64_t lensember_free(struct lensember_arena *arena, void *start
     arena->refusal = LENSEMBER_OK;
     if (start == NULL)
         return arena->refusal;
-    size = lensember_expect_live(arena, start);
+    size = lensember_needs_live_block(arena, start);
     arena->refusal = lensember_pool_release(&arena->pool, lensember_offset(arena, start));
     if (arena->refusal == LENSEMBER_OK)
         lensember_shut_block(arena, start, size);
@@ -453,7 +462,7 @@ static inline void *lensember_realloc(struct lensember_arena *arena, void *start
 
     if (start == NULL)
         return lensember_alloc(arena, n);
-    size = lensember_expect_live(arena, start);
+    size = lensember_needs_live_block(arena, start);
     block = lensember_pool_resize(&arena->pool, lensember_offset(arena, start), n);
     arena->refusal = block.refusal;
     if (block.refusal != LENSEMBER_OK)

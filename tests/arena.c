@@ -12,7 +12,6 @@
  */
 #include "lensember_arena.h"
 
-#include "calls.h"
 #include "drafts.h"
 #include "draws.h"
 #include "groups.h"
@@ -1229,34 +1228,39 @@ static void expect_same(const char *call, const void *a, const void *b, size_t b
         expect_same(call, &a, &b, sizeof a);         \
     } while (0)
 
+/* The seven arguments that lend records as plain buffers. */
+#define PLAIN(r)                                                                   \
+    (r)->c, (r)->bits, (r)->c * BIT_WORDS, (r)->words, (r)->c * PAGES, (r)->slots, \
+        (r)->c * SLOT_WORDS
+
 static void compare_forms(struct lensember_pool *pool, const struct records *plain, uint64_t place)
 {
     uint64_t room[2][64] = {{0}};
     size_t arena = plain->c * CHUNK_BYTES;
 
-    EXPECT_SAME("check", uint64_t, lensember_pool_check(pool), library_check(plain));
+    EXPECT_SAME("check", uint64_t, lensember_pool_check(pool), lensember_check(PLAIN(plain)));
     EXPECT_SAME("reserve", struct lensember_reserved, lensember_pool_reserve(pool, 300),
-                library_reserve(plain, 300));
+                lensember_reserve(PLAIN(plain), 300));
     EXPECT_SAME("resize", struct lensember_resized, lensember_pool_resize(pool, place, 5000),
-                library_resize(plain, place, 5000));
-    place = library_next(plain, 0).place;
+                lensember_resize(PLAIN(plain), place, 5000));
+    place = lensember_next(PLAIN(plain), 0).place;
     EXPECT_SAME("next", struct lensember_found, lensember_pool_next(pool, place),
-                library_next(plain, place));
+                lensember_next(PLAIN(plain), place));
     EXPECT_SAME("block size", struct lensember_sized, lensember_pool_block_size(pool, place),
-                library_block_size(plain, place));
+                lensember_block_size(PLAIN(plain), place));
     EXPECT_SAME("bytes", struct lensember_part, lensember_pool_bytes(pool, 0, place, arena, 1),
-                library_bytes(0, plain, place, arena, 1));
+                lensember_bytes(PLAIN(plain), 0, place, arena, 1));
     EXPECT_SAME("bytes", struct lensember_part, lensember_pool_bytes(pool, 1, place, 1, arena),
-                library_bytes(1, plain, place, 1, arena));
+                lensember_bytes(PLAIN(plain), 1, place, 1, arena));
     EXPECT_SAME("totals", struct lensember_summed, lensember_pool_totals(pool),
-                library_totals(plain));
+                lensember_totals(PLAIN(plain)));
     EXPECT_SAME("census", struct lensember_counted, lensember_pool_census(pool, room[0], 64),
-                library_census(plain, room[1], 64));
+                lensember_census(PLAIN(plain), room[1], 64));
     expect_same("census", room[0], room[1], sizeof room[0]);
     EXPECT_SAME("release", uint64_t, lensember_pool_release(pool, place),
-                library_release(plain, place));
+                lensember_release(PLAIN(plain), place));
     EXPECT_SAME("sweep", struct lensember_swept, lensember_pool_sweep(pool),
-                library_sweep(plain));
+                lensember_sweep(PLAIN(plain)));
 }
 
 static void compare_replays(struct lensember_pool *pool, const struct records *plain)
@@ -1265,10 +1269,10 @@ static void compare_replays(struct lensember_pool *pool, const struct records *p
     uint8_t out[2][LENSEMBER_LINES_ROOM(sizeof log)] = {{0}};
 
     EXPECT_SAME("replay", struct lensember_replayed, lensember_pool_replay(pool, log, sizeof log),
-                library_replay(plain, log, sizeof log));
+                lensember_replay(PLAIN(plain), log, sizeof log));
     EXPECT_SAME("lines", struct lensember_printed,
                 lensember_pool_lines(pool, log, sizeof log, out[0], sizeof out[0]),
-                library_lines(plain, log, sizeof log, out[1], sizeof out[1]));
+                lensember_lines(PLAIN(plain), log, sizeof log, out[1], sizeof out[1]));
     expect_same("lines", out[0], out[1], sizeof out[0]);
 }
 
@@ -1286,6 +1290,8 @@ static void test_pool_forms(void)
         pool_read(&model, &plain);
         compare_forms(&pool, &plain, draw_live_place(&model));
         expect(lent_equal(&lent, &plain), "other records");
+        expect(lensember_pool_fresh(&pool) == lensember_fresh(PLAIN(&plain)), "fresh");
+        expect(lent_equal(&lent, &plain), "other records of a fresh pool");
         compare_replays(&pool, &plain);
         expect(lent_equal(&lent, &plain), "other records");
     }

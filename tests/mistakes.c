@@ -3,7 +3,7 @@
  * command line says which, and none is no mistake. Each is on the line that is
  * marked with its word, and with the number of the refusal where it is a call.
  *
- * Rows and tables are volatile, and some functions not inlined, where else the
+ * Rows and tables are volatile, and some functions not inlined, where otherwise the
  * compiler might put the mistake on another line, or leave it out.
  */
 #include "lensember_arena.h"
@@ -170,6 +170,16 @@ static uint64_t resize_released_table(void)
     return left.arena.refusal;
 }
 
+/* The pool gave it back, and the arena was not told. */
+static uint64_t release_unsynced(void)
+{
+    struct row *row = enter_row(&left);
+
+    lensember_pool_release(&left.arena.pool, lensember_place_of(&left.arena, row).place);
+    lensember_free(&left.arena, row); /* mistake: release-unsynced, refused 6 */
+    return left.arena.refusal;
+}
+
 /* ---- No mistake ----------------------------------------------------------------- */
 
 /* As many rows as fit; the last answer is null, and the reason no room. */
@@ -221,6 +231,7 @@ static const struct {
     {"release-elsewhere", release_elsewhere},
     {"resize-released", resize_released},
     {"resize-released-table", resize_released_table},
+    {"release-unsynced", release_unsynced},
 };
 
 int main(int argc, char **argv)

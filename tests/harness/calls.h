@@ -1,4 +1,4 @@
-/* The library's calls, each on the whole records of a pool, by the forms that take it as one value. */
+/* The library's calls, each on the whole records of a pool, by the forms that take a pool. */
 #ifndef CALLS_H
 #define CALLS_H
 
