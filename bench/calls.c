@@ -34,12 +34,12 @@ static struct lensember_reserved open_run;
 
 static struct lensember_reserved reserve(size_t c, uint64_t size)
 {
-    return lensember_reserve(c, LENT(c), size);
+    return lensember_pool_reserve(pool_of(c), size);
 }
 
 static uint64_t release(size_t c, uint64_t place)
 {
-    return lensember_release(c, LENT(c), place);
+    return lensember_pool_release(pool_of(c), place);
 }
 
 static void must(uint64_t answer, const char *what)
@@ -110,7 +110,7 @@ static void choose_blocks(void)
 static void make_fresh(size_t c)
 {
     count = 0;
-    must(lensember_fresh(c, LENT(c)), "fresh");
+    must(lensember_pool_fresh(pool_of(c)), "fresh");
     put(c, ROW);
     put(c, TABLE);
 }
@@ -333,18 +333,18 @@ static uint64_t release_table(size_t c)
 
 static uint64_t size_row(size_t c)
 {
-    return lensember_block_size(c, LENT(c), row.place).refusal;
+    return lensember_pool_block_size(pool_of(c), row.place).refusal;
 }
 
 static uint64_t size_table(size_t c)
 {
-    return lensember_block_size(c, LENT(c), table.place).refusal;
+    return lensember_pool_block_size(pool_of(c), table.place).refusal;
 }
 
 static struct lensember_resized resize(size_t c, const struct lensember_reserved *block,
                                        uint64_t size)
 {
-    return lensember_resize(c, LENT(c), block->place, size);
+    return lensember_pool_resize(pool_of(c), block->place, size);
 }
 
 static uint64_t keep_row(size_t c)
@@ -408,40 +408,40 @@ static uint64_t table_to_row(size_t c)
 
 static uint64_t resize_nothing(size_t c)
 {
-    return lensember_resize(c, LENT(c), 1, ROW).refusal == LENSEMBER_NO_BLOCK ? 0 : 1;
+    return lensember_pool_resize(pool_of(c), 1, ROW).refusal == LENSEMBER_NO_BLOCK ? 0 : 1;
 }
 
 /* The first block of the pool. */
 static uint64_t next_first(size_t c)
 {
-    return lensember_next(c, LENT(c), 0).refusal;
+    return lensember_pool_next(pool_of(c), 0).refusal;
 }
 
 /* None: in a fresh pool nearly all pages are looked at. */
 static uint64_t next_none(size_t c)
 {
-    return lensember_next(c, LENT(c), last + 1).refusal;
+    return lensember_pool_next(pool_of(c), last + 1).refusal;
 }
 
 static uint64_t list_blocks(size_t c)
 {
-    return lensember_census(c, LENT(c), room, 2 * count).refusal;
+    return lensember_pool_census(pool_of(c), room, 2 * count).refusal;
 }
 
 /* The check alone, twice: how far two measures of one thing lie apart. */
 static uint64_t check(size_t c)
 {
-    return lensember_check(c, LENT(c));
+    return lensember_pool_check(pool_of(c));
 }
 
 static uint64_t total(size_t c)
 {
-    return lensember_totals(c, LENT(c)).refusal;
+    return lensember_pool_totals(pool_of(c)).refusal;
 }
 
 static uint64_t bytes_of_row(size_t c)
 {
-    return lensember_bytes(c, LENT(c), LENSEMBER_LEFT, row.place, LENSEMBER_ARENA_BYTES(c), 0)
+    return lensember_pool_bytes(pool_of(c), LENSEMBER_LEFT, row.place, LENSEMBER_ARENA_BYTES(c), 0)
         .refusal;
 }
 
@@ -451,19 +451,32 @@ static uint64_t reserve_and_release(size_t c)
     return release(c, reserve(c, ROW).place);
 }
 
-static uint64_t alloc_and_free(size_t c)
+static struct lensember_arena arena_of(size_t c)
 {
     static LENSEMBER_ARENA_MEMORY(MAX_CHUNKS) bytes;
-    struct lensember_pool pool = {c, bits, words, slots};
-    struct lensember_arena arena = lensember_arena_at(pool, &bytes, LENSEMBER_ARENA_BYTES(c));
+
+    return lensember_arena_at(*pool_of(c), &bytes, LENSEMBER_ARENA_BYTES(c));
+}
+
+static uint64_t alloc_and_free(size_t c)
+{
+    struct lensember_arena arena = arena_of(c);
 
     return lensember_free(&arena, lensember_alloc(&arena, ROW));
+}
+
+static uint64_t realloc_row(size_t c)
+{
+    struct lensember_arena arena = arena_of(c);
+    unsigned char *start = arena.base + row.place;
+
+    return lensember_realloc(&arena, start, ROW - 7) == start ? 0 : 1;
 }
 
 /* Whatever the pool is, it has no blocks then. */
 static uint64_t fresh(size_t c)
 {
-    return lensember_fresh(c, LENT(c));
+    return lensember_pool_fresh(pool_of(c));
 }
 
 /* Behind each call that changed something; timed alone too. */
@@ -476,7 +489,7 @@ static uint64_t put_back(size_t c)
 
 static uint64_t sweep(size_t c)
 {
-    struct lensember_swept swept = lensember_sweep(c, LENT(c));
+    struct lensember_swept swept = lensember_pool_sweep(pool_of(c));
 
     if (swept.pages > 0)
         put_back(c);
@@ -507,7 +520,7 @@ static uint64_t reserve_any_row(size_t c)
 
 static struct lensember_resized resize_lone_slot(size_t c, uint64_t size)
 {
-    return lensember_resize(c, LENT(c), UINT64_C(4096) * lone_page, size);
+    return lensember_pool_resize(pool_of(c), UINT64_C(4096) * lone_page, size);
 }
 
 /* Only a sweep makes room for so many pages. */
@@ -558,8 +571,8 @@ static const struct sheet sheets[] = {
     {{"row to table", "table to row", "no block", "check"},
      {call_or, row_to_table, table_to_row, resize_nothing, check},
      FRESH_HALF_FULL},
-    {{"bytes of row", "row and back", "by pointers", "check"},
-     {call_or, bytes_of_row, reserve_and_release, alloc_and_free, check},
+    {{"bytes of row", "row and back", "alloc, free", "realloc, kept"},
+     {call_or, bytes_of_row, reserve_and_release, alloc_and_free, realloc_row},
      FRESH_HALF_FULL},
     {{"fresh", "totals", "next, none", "check"},
      {call_or, fresh, total, next_none, check},

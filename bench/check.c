@@ -15,7 +15,7 @@
 
 static uint64_t call_check(size_t c)
 {
-    return lensember_check(c, LENT(c));
+    return lensember_pool_check(pool_of(c));
 }
 
 /* Generates a pool, times both calls on it, prints a line, answers the ratio. */

@@ -12,9 +12,17 @@ uint64_t slots[MAX_CHUNKS * SLOT_WORDS];
 /* Results go here, so that no call can be left out. */
 static volatile uint64_t sink;
 
+struct lensember_pool *pool_of(size_t c)
+{
+    static struct lensember_pool pool = {0, bits, words, slots};
+
+    pool.c = c;
+    return &pool;
+}
+
 uint64_t call_or(size_t c)
 {
-    return or_records(LENT(c));
+    return or_records(bits, c * BIT_WORDS, words, c * PAGES, slots, c * SLOT_WORDS);
 }
 
 /* Microseconds a chunk of one batch of calls. */

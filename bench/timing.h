@@ -7,14 +7,15 @@
 #ifndef TIMING_H
 #define TIMING_H
 
+#include "lensember.h"
 #include "records.h"
 
 extern uint64_t bits[MAX_CHUNKS * BIT_WORDS];
 extern uint32_t words[MAX_CHUNKS * PAGES];
 extern uint64_t slots[MAX_CHUNKS * SLOT_WORDS];
 
-/* The six arguments that lend the records of c chunks. */
-#define LENT(c) bits, (c) * BIT_WORDS, words, (c) * PAGES, slots, (c) * SLOT_WORDS
+/* The first c chunks of these records, until the next such question. */
+struct lensember_pool *pool_of(size_t c);
 
 typedef uint64_t timed_call(size_t c);
 
