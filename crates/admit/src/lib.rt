@@ -1,4 +1,6 @@
 // The record check, in one pass over the pages: refusals 1 and 2 of each call on an existing pool.
+#![tactic(auto)]
+
 ghost use Rattle.std.specs.Prelude.{◌≡◌, true, false, [], ◌+◌, ◌*◌, ◌%◌, ◌<◌, ◌≤◌, eqb, length, get_or};
 ghost use Rattle.records.specs.declared.Kind.TheVariants.{Class};
 ghost use Rattle.records.specs.Kinds.{slots_of};
@@ -48,7 +50,7 @@ fn stray_slot(slots: &[u64], g: usize, masks: &[u64; 240], b: usize) -> u64
 }
 
 // The state behind a page: pages still to come in the run, the word of the next; and the page's stray slot bits.
-#[derive(Drop)]
+#[derive(Clone, Copy)]
 pub struct PageStep {
     pub ok: bool,
     pub left: u32,
@@ -175,7 +177,7 @@ fn edge_ok(i: usize, left: u32, w: u32) -> bool
     w == 0x40000001
 }
 
-#[derive(Drop)]
+#[derive(Clone, Copy)]
 pub struct Progress {
     pub ok: bool,
     pub left: u32,

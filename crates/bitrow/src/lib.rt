@@ -1,5 +1,7 @@
 // Rows of bits in 64-bit words. Page bits and slot bits are such rows, so each search, change and count is here once, with the bit's
 // value as an argument where it has one.
+#![tactic(auto)]
+
 ghost use Rattle.std.specs.Prelude.{◌≡◌, ℕ, ◌+◌, ◌-◌, ◌*◌, ◌%◌, ◌^◌, ◌<◌, ◌≤◌, min, not, length};
 ghost use Rattle.bitrow.specs.Row.{digit, is_set, Lowest, next_bit, word_put, put_bit, put_bits, count_bits};
 ghost use Rattle.bitrow.specs.Mask.{mask_of, with_mask};

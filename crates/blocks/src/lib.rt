@@ -1,5 +1,7 @@
 // The live blocks of a pool, and how each store changes them. Nobody else writes a slot bit or the words and bits of a run. Definitions in
 // specs/, laws in proofs/.
+#![tactic(auto)]
+
 ghost use Rattle.std.specs.Prelude.{◌≡◌, ℕ, suc, ◌+◌, ◌*◌, ◌/◌, ◌%◌, ◌^◌, ◌<◌, ◌≤◌, length, slice_index};
 ghost use Rattle.std.proofs.lemmas.List.Edits.{sets};
 ghost use Rattle.bitrow.specs.Row.{digit, bit_at, Lowest, word_put};

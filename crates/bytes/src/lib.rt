@@ -1,4 +1,6 @@
 // Bytes: a block's part of one ear's arena.
+#![tactic(auto)]
+
 ghost use Rattle.std.specs.Prelude.{◌≡◌, ◌*◌, eqb};
 ghost use Rattle.records.specs.Lent.{before};
 ghost use Rattle.bytes.specs.Bytes.{chosen, ear_fits, part_of, bytes_of, bytes_refusal_of};
@@ -7,7 +9,7 @@ use refusals::SHAPE;
 
 // A part of the chosen arena: where it starts and how long it is, or a refusal and nothing. C reads it as it is.
 #[repr(C)]
-#[derive(Drop)]
+#[derive(Clone, Copy)]
 pub struct Part {
     pub refusal: u64,
     pub start: u64,

@@ -1,4 +1,6 @@
 // What each page of a pool shows in a drawing.
+#![tactic(auto)]
+
 ghost use Rattle.std.specs.Prelude.{◌≡◌, ◌+◌, ◌*◌, ◌≤◌, ◌<◌, length};
 ghost use Rattle.bitrow.specs.Row.{count_bits};
 ghost use Rattle.classes.specs.Classes.{slots};
@@ -9,7 +11,7 @@ ghost use Rattle.cells.specs.Means.{CellsMean};
 
 // What a page shows: its character, the letter of its fill, 1 where it goes on with the cell before, how full it is in tenths, its
 // label, 0 for none.
-#[derive(Drop)]
+#[derive(Clone, Copy)]
 pub struct Cell {
     pub mark: u8,
     pub fill: u8,

@@ -1,4 +1,6 @@
 // Census: place and size of each live block, written into a lent room.
+#![tactic(auto)]
+
 ghost use Rattle.std.specs.Prelude.{◌≡◌, [], ◌∷◌, ◌+◌, ◌*◌, ◌<◌, ◌≤◌, length};
 ghost use Rattle.std.proofs.lemmas.List.Edits.{sets};
 ghost use Rattle.records.specs.declared.Kind.TheVariants.{Class};
@@ -13,7 +15,7 @@ use refusals::SHORT_ROOM;
 
 // The answer of a census; C reads it as it is.
 #[repr(C)]
-#[derive(Drop)]
+#[derive(Clone, Copy)]
 pub struct Counted {
     pub refusal: u64,
     pub count: u64,

@@ -1,4 +1,6 @@
 // The 30 size classes, as constant rows, and the class that serves a request.
+#![tactic(auto)]
+
 ghost use Rattle.std.specs.Prelude.{◌≡◌, ◌<◌, ◌≤◌};
 ghost use Rattle.classes.specs.Classes.{rows, row_at, class_for, ClassesMean};
 
@@ -7,7 +9,7 @@ mod table;
 pub use table::class_table;
 
 // One size class: slot size in bytes, slots in a run, pages in a run.
-#[derive(Drop)]
+#[derive(Clone, Copy)]
 pub struct Row {
     pub size: u16,
     pub slots: u16,

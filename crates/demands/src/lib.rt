@@ -1,4 +1,6 @@
 // The three demands (RULES 11), each as one claim about the calls.
+#![tactic(auto)]
+
 ghost use Rattle.demands.specs.Demand1.{Demand1};
 ghost use Rattle.demands.specs.Demand2.{Demand2};
 ghost use Rattle.demands.specs.Demand3.{Demand3};

@@ -1,5 +1,7 @@
 // Asks for bytes (RULES 6.6) of two ears, by both calls, and prints the answers. Each ear has a pool and an arena of one chunk; the arena
 // says at some places whose it is, so that a part shows where it was cut.
+#![tactic(auto)]
+
 ghost use Rattle.std.specs.Prelude.{◌≡◌, ◌≤◌, length};
 
 use libc::STDOUT_FILENO;

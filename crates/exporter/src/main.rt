@@ -1,4 +1,6 @@
 // Exports the log on standard input, and writes the vendor's text to standard output. At most 1,048,576 bytes are read.
+#![tactic(auto)]
+
 ghost use Rattle.std.specs.Prelude.{◌≡◌, length};
 
 use libc::{STDERR_FILENO, STDIN_FILENO, STDOUT_FILENO};

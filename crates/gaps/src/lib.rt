@@ -1,25 +1,27 @@
 // Finding pages: the gaps between the taken pages of a chunk, and the gap that n pages go to. The row of page bits is any row that is long
 // enough: nothing here leans on sound records.
+#![tactic(auto)]
+
 ghost use Rattle.std.specs.Prelude.{◌≡◌, ◌+◌, ◌*◌, ◌≤◌, ◌<◌, length, get_or};
 ghost use Rattle.bitrow.specs.Row.{digit, next_bit};
 ghost use Rattle.gaps.specs.Gaps.{better, shortest, gaps_of, find_pages, Edges, at_edge, Ready, Searched, barred, GapsMean};
 
 // A gap: its first page, counted through the pool, and its number of pages.
-#[derive(Drop)]
+#[derive(Clone, Copy)]
 pub struct Gap {
     pub at: usize,
     pub len: usize,
 }
 
 // How far the search of a chunk has come: the first page of the open gap, or the chunk's end where none is open, and the best gap so far.
-#[derive(Drop)]
+#[derive(Clone, Copy)]
 pub struct Search {
     pub start: usize,
     pub best: Gap,
 }
 
 // Where pages were found.
-#[derive(Drop)]
+#[derive(Clone, Copy)]
 pub enum Found {
     At(usize),
     Nothing,

@@ -1,6 +1,8 @@
 // Marks beside sound records, for a caller that makes many calls: where the free slots of each class are, so that the lowest one is found in
 // a fixed number of steps, however many chunks there are. A mark says that a run has a free slot, a top bit that a word has a mark, and a
 // byte for each page which slot words of the run there have one. The class's numbers stand beside its marks.
+#![tactic(auto)]
+
 ghost use Rattle.std.specs.Prelude.{◌≡◌, true, ◌+◌, ◌*◌, ◌≤◌, ◌<◌, length};
 ghost use Rattle.classes.specs.Classes.{size, slots, pages};
 ghost use Rattle.records.specs.declared.Kind.TheVariants.{Class};

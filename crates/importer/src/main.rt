@@ -1,4 +1,6 @@
 // Imports the vendor's text on standard input, and writes its log to standard output. At most 1,048,576 bytes are read.
+#![tactic(auto)]
+
 ghost use Rattle.std.specs.Prelude.{◌≡◌, length};
 
 use libc::{STDERR_FILENO, STDIN_FILENO, STDOUT_FILENO};

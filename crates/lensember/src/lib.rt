@@ -1,5 +1,7 @@
 // The calls as C makes them (include/lensember.h): a slice crosses as a pointer and its number of elements, an answer as a plain struct.
 // Each call checks what it is lent, and then works by an inner function that needs no check.
+#![tactic(auto)]
+
 ghost use Rattle.std.specs.Prelude.{◌≡◌};
 ghost use Rattle.records.specs.Lent.{before, after};
 ghost use Rattle.records.specs.Calls.{admit_of, leaves, fresh_of};
@@ -19,7 +21,7 @@ ghost use Rattle.lensember.specs.Flat.{flat_reserved, reserved_of};
 
 // struct lensember_reserved: kind is 0 for nothing, 1 for a slot, 2 for a page run; what does not apply is 0.
 #[repr(C)]
-#[derive(Drop)]
+#[derive(Clone, Copy)]
 pub struct FlatReserved {
     pub refusal: u64,
     pub place: u64,

@@ -1,4 +1,6 @@
 // Reserve and release for a caller that owns sound records and keeps their marks: no search goes over the pages, and the answer is a number.
+#![tactic(auto)]
+
 ghost use Rattle.std.specs.Prelude.{◌≡◌, ◌*◌, ◌<◌};
 ghost use Rattle.records.specs.Lent.{lent, before, after};
 ghost use Rattle.records.specs.Calls.{admit_of, leaves};

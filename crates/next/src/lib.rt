@@ -1,4 +1,6 @@
 // Next: the live block with the lowest place at or above a place.
+#![tactic(auto)]
+
 ghost use Rattle.std.specs.Prelude.{◌≡◌, ◌*◌, ◌/◌, ◌<◌};
 ghost use Rattle.classes.specs.Classes.{size};
 ghost use Rattle.records.specs.Pool.{kind_at};
@@ -9,7 +11,7 @@ ghost use Rattle.next.specs.Next.{first_from, answer_of};
 ghost use Rattle.next.specs.Walk.{Least, Started, begun_at};
 
 // A block's place and size, or none.
-#[derive(Drop)]
+#[derive(Clone, Copy)]
 pub enum First {
     At(u64, u64),
     Nothing,
@@ -17,7 +19,7 @@ pub enum First {
 
 // The answer of next; C reads it as it is.
 #[repr(C)]
-#[derive(Drop)]
+#[derive(Clone, Copy)]
 pub struct Next {
     pub refusal: u64,
     pub place: u64,
@@ -25,14 +27,14 @@ pub struct Next {
 }
 
 // Where the search starts: a page, and a slot of the run that starts there.
-#[derive(Drop)]
+#[derive(Clone, Copy)]
 pub struct Start {
     pub page: usize,
     pub slot: usize,
 }
 
 // What starts at a page: a large run of so many pages, or a run of so many slots of a size, or nothing.
-#[derive(Drop)]
+#[derive(Clone, Copy)]
 pub struct Begun {
     pub pages: usize,
     pub count: usize,

@@ -1,4 +1,6 @@
 // Drawings of a pool: what each page is and how full its runs are, as text or as an SVG picture.
+#![tactic(auto)]
+
 ghost use Rattle.std.specs.Prelude.{◌≡◌, true, false, ◌+◌, ◌*◌, ◌≤◌, ◌<◌, length, take};
 ghost use Rattle.records.specs.Lent.{lent, before};
 ghost use Rattle.records.specs.Calls.{admit_of, leaves};
@@ -12,7 +14,7 @@ use text::put_filled;
 
 // The answer; C reads it as it is.
 #[repr(C)]
-#[derive(Drop)]
+#[derive(Clone, Copy)]
 pub struct Drawn {
     pub refusal: u64,
     pub length: u64,

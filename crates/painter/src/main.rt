@@ -1,4 +1,6 @@
 // Replays the log on standard input and writes an SVG picture of the pool after it to standard output.
+#![tactic(auto)]
+
 use libc::{STDERR_FILENO, STDOUT_FILENO};
 
 fn main() {

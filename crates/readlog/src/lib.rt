@@ -1,4 +1,6 @@
 // The log on standard input, replayed in a pool of one chunk. The first 16,384 bytes are read; the rest counts as missing.
+#![tactic(auto)]
+
 ghost use Rattle.std.specs.Prelude.{◌≡◌};
 ghost use Rattle.records.specs.Lent.{before, after};
 ghost use Rattle.records.specs.Calls.{leaves, fresh_of};

@@ -1,4 +1,6 @@
 // The records of a pool: what page words mean, how they are written, and what sound records promise. Definitions in specs/, laws in proofs/.
+#![tactic(auto)]
+
 ghost use Rattle.std.specs.Prelude.{◌≡◌, ◌+◌, ◌*◌, ◌≤◌, ◌<◌, eqb, length, true};
 ghost use Rattle.records.specs.declared.Kind.TheVariants.{Class};
 ghost use Rattle.records.specs.Kinds.{edge_word, large_word, class_word, inner_word, is_run_of, in_class, ClassPart};
@@ -10,7 +12,7 @@ ghost use Rattle.records.specs.Runs.{Lies, SoundRecords};
 
 // What a page is: page 0 of a chunk; free; anything that no sound records have; the first page of a large run that has so many pages behind
 // it; the first page of a run of a class; another page of a run, by its word.
-#[derive(Drop)]
+#[derive(Clone, Copy)]
 pub enum Kind {
     Edge,
     Free,
@@ -21,14 +23,14 @@ pub enum Kind {
 }
 
 // The page that tells what a page lies in, and what it is.
-#[derive(Drop)]
+#[derive(Clone, Copy)]
 pub struct Home {
     pub first: usize,
     pub kind: Kind,
 }
 
 // A class run: its first page, and its class.
-#[derive(Drop)]
+#[derive(Clone, Copy)]
 pub struct ClassRun {
     pub first: usize,
     pub class: usize,

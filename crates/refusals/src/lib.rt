@@ -1,4 +1,6 @@
 // The refusals of all calls by their numbers, and by the names that include/lensember.h has for them. Their order is in specs/.
+#![tactic(auto)]
+
 ghost use Rattle.refusals.specs.Means.{FirstDecides};
 
 // Not from 1 to 16 chunks, a buffer that has not the exact length, or no such ear.

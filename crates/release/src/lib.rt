@@ -1,4 +1,6 @@
 // Release and block size: what starts at a place, and how it is given back.
+#![tactic(auto)]
+
 ghost use Rattle.std.specs.Prelude.{◌≡◌, ◌+◌, ◌*◌, ◌<◌, ◌≤◌, length};
 ghost use Rattle.classes.specs.Classes.{size};
 ghost use Rattle.records.specs.declared.Kind.TheVariants.{Class};
@@ -11,7 +13,7 @@ ghost use Rattle.release.specs.Areas.{Leads, IsSpot};
 use refusals::{FREE_SLOT, NO_BLOCK};
 
 // What starts at a place: nothing, with the refusal's number; a large run, by its first page and the pages behind it; a taken slot of a run.
-#[derive(Drop)]
+#[derive(Clone, Copy)]
 pub enum Spot {
     Nowhere(u64),
     Run(usize, usize),
@@ -20,7 +22,7 @@ pub enum Spot {
 
 // What a place lies in: nothing that starts there; a large run, at its first byte, by its first page and the pages behind it; a run of a
 // class, by its first page and the class.
-#[derive(Drop)]
+#[derive(Clone, Copy)]
 pub enum Area {
     Bare,
     Large(usize, usize),
@@ -29,7 +31,7 @@ pub enum Area {
 
 // The answer of block size; C reads it as it is.
 #[repr(C)]
-#[derive(Drop)]
+#[derive(Clone, Copy)]
 pub struct Sized {
     pub refusal: u64,
     pub size: u64,

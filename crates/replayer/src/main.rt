@@ -1,5 +1,7 @@
 // Replays the log on standard input in a pool of one chunk, and writes its lines to standard output. The first 16,384 bytes are read; the
 // rest counts as missing.
+#![tactic(auto)]
+
 use libc::{STDERR_FILENO, STDIN_FILENO, STDOUT_FILENO};
 
 fn main() {

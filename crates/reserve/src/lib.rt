@@ -1,4 +1,6 @@
 // Reserve: a slot of the smallest class that holds the request, or a run of pages.
+#![tactic(auto)]
+
 ghost use Rattle.std.specs.Prelude.{◌≡◌, ◌+◌, ◌-◌, ◌*◌, ◌<◌, ◌≤◌, length};
 ghost use Rattle.classes.specs.Classes.{size, pages};
 ghost use Rattle.records.specs.declared.Kind.TheVariants.{Class};
@@ -12,7 +14,7 @@ use refusals::{NO_ROOM, TOO_BIG};
 
 // What a reserve will do: refuse with a number; take slot s of the run of class b at page g; start a run of class b at page g; start a
 // large run at page g, with k pages behind it.
-#[derive(Drop)]
+#[derive(Clone, Copy)]
 pub enum Plan {
     Refuse(u64),
     TakeSlot(usize, usize, usize),
@@ -21,7 +23,7 @@ pub enum Plan {
 }
 
 // A slot: its class, the first page of its run, as a page of its chunk, and its number in the run.
-#[derive(Drop)]
+#[derive(Clone, Copy)]
 pub struct SlotAt {
     pub class: u64,
     pub first: u64,
@@ -29,14 +31,14 @@ pub struct SlotAt {
 }
 
 // What was given: a slot, a run of so many pages, or nothing.
-#[derive(Drop)]
+#[derive(Clone, Copy)]
 pub enum Given {
     Slot(SlotAt),
     Run(u64),
     None,
 }
 
-#[derive(Drop)]
+#[derive(Clone, Copy)]
 pub struct Reserved {
     pub refusal: u64,
     pub place: u64,

@@ -1,4 +1,6 @@
 // Resize: a block stays where it lies, with another size, or is moved.
+#![tactic(auto)]
+
 ghost use Rattle.std.specs.Prelude.{◌≡◌, suc, ◌+◌, ◌*◌, ◌%◌, ◌<◌, ◌≤◌, length};
 ghost use Rattle.records.specs.Lent.{lent, before, after};
 ghost use Rattle.records.specs.Calls.{admit_of, leaves};
@@ -14,7 +16,7 @@ use refusals::TOO_BIG;
 
 // What becomes of a block: it is refused with a number; stays as it is, of so many bytes; is a large run at page g that gets j pages behind
 // its first in place of k; or, of so many bytes, is moved.
-#[derive(Drop)]
+#[derive(Clone, Copy)]
 pub enum Change {
     Refuse(u64),
     Stay(u64),
@@ -24,7 +26,7 @@ pub enum Change {
 
 // The answer: how is 1 for kept, 2 for moved; C reads it as it is.
 #[repr(C)]
-#[derive(Drop)]
+#[derive(Clone, Copy)]
 pub struct Resized {
     pub refusal: u64,
     pub place: u64,
@@ -34,7 +36,7 @@ pub struct Resized {
 }
 
 // Whether a resize is over: it is, with an answer; or the block, of so many bytes, is still to be moved.
-#[derive(Drop)]
+#[derive(Clone, Copy)]
 pub enum Settled {
     Over(Resized),
     Moving(u64),

@@ -1,5 +1,7 @@
 // Sweep: the empty runs, class runs with no taken slot, are given back as free pages. They are found on a copy of the page bits, so that a
 // caller can see what a sweep would free before it makes one.
+#![tactic(auto)]
+
 ghost use Rattle.std.specs.Prelude.{◌≡◌, suc, ◌+◌, ◌*◌, ◌<◌, ◌≤◌, length};
 ghost use Rattle.bitrow.specs.Row.{digit};
 ghost use Rattle.records.specs.Lent.{lent, before, after};
@@ -10,14 +12,14 @@ ghost use Rattle.sweep.specs.Found.{empty_to, Marked, Spare, WordsFreed};
 
 // The answer of a sweep; C reads it as it is.
 #[repr(C)]
-#[derive(Drop)]
+#[derive(Clone, Copy)]
 pub struct Swept {
     pub refusal: u64,
     pub pages: u64,
 }
 
 // Of 64 pages, a 1 for each that lies in an empty run; and whether the last one does.
-#[derive(Drop)]
+#[derive(Clone, Copy)]
 pub struct Marks {
     pub mask: u64,
     pub last: u64,

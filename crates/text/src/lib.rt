@@ -1,5 +1,7 @@
 // Text written into a lent buffer. Each function writes from a position on and answers the position
 // behind what it wrote.
+#![tactic(auto)]
+
 ghost use Rattle.std.specs.Prelude.{◌≡◌, ◌+◌, ◌≤◌, ◌<◌, length, get_or, cond};
 ghost use Rattle.text.specs.Text.{decimal, Appends, piece, takes, shows, filled, piece_room, room};
 

@@ -1,4 +1,6 @@
 // Totals: live blocks, bytes given and free pages, in one pass over the page words.
+#![tactic(auto)]
+
 ghost use Rattle.std.specs.Prelude.{◌≡◌, ◌+◌, ◌*◌, ◌<◌, ◌≤◌, length};
 ghost use Rattle.records.specs.Kinds.{span_of};
 ghost use Rattle.bitrow.specs.Row.{is_set};
@@ -10,7 +12,7 @@ ghost use Rattle.totals.specs.Totals.{amount_of, summed};
 ghost use Rattle.totals.specs.Rows.{class_in};
 
 // Some live blocks: how many, and the sum of the sizes given.
-#[derive(Drop)]
+#[derive(Clone, Copy)]
 pub struct Amount {
     pub blocks: usize,
     pub bytes: usize,
@@ -18,7 +20,7 @@ pub struct Amount {
 
 // The answer of totals; C reads it as it is.
 #[repr(C)]
-#[derive(Drop)]
+#[derive(Clone, Copy)]
 pub struct Sums {
     pub refusal: u64,
     pub blocks: u64,

@@ -1,4 +1,6 @@
 // A number in a wider type: the same number. The casts ask nothing here, since any value fits.
+#![tactic(auto)]
+
 ghost use Rattle.std.specs.Prelude.{◌≡◌};
 
 pub fn wide8(x: u8) -> usize

@@ -1,4 +1,6 @@
 // The line of a call, and the last line of a replay.
+#![tactic(auto)]
+
 ghost use Rattle.std.specs.Prelude.{◌+◌, ◌*◌, ◌≤◌, length};
 ghost use Rattle.text.specs.Text.{Appends};
 ghost use Rattle.events.specs.Doing.{event_bytes};

@@ -1,0 +1,10 @@
+-- `blocks::class_words` meets its contract. Assumes nothing.
+use Rattle.std.proofs.Common.{◌-◌, ◌≤◌, refl, ◌∙◌, arith, length-set, rules}
+use Rattle.blocks.proofs.StoreForms.{Written, written_none, written_on, written_all, run_pages_lem}
+use Rattle.blocks.proofs.class_words.Given as goal
+
+abbrev pub invariant-loop-k : goal.invariant-loop-k
+invariant-loop-k l = (1 ≤ l.k) × (l.n ≤ 7) × (Written l.words l.initial.words l.g l.b l.n l.k)
+
+abbrev pub decreases-loop-k : goal.decreases-loop-k
+decreases-loop-k l = l.n - l.k

@@ -1,0 +1,15 @@
+-- `bytes::bytes` meets its contract. Assumes nothing.
+use Prim.Native.Nat.{◌^◌}
+use native.Mathlib.Omega.{arith}
+use borrow.Author.Rules.{rules}
+use Rattle.bytes.proofs.PartLaws.{ends_left, ends_right, ends_low, bytes_left, bytes_right}
+use Rattle.bytes.proofs.bytes.Goals as goal
+
+pub overflow_add-e : goal.overflow_add-e
+overflow_add-e c = record { fits = ends_low _ _ _ _ _ _ c.part_of-x.ensures (2 ^ 64) (omega arith) (omega arith) }
+
+pub returns-then-ear-eq0 : goal.returns-then-ear-eq0
+returns-then-ear-eq0 c = bytes_left _ _ _ _ _ _ c.part_of-x.ensures c.if-ear-eq0.true
+
+pub returns : goal.returns
+returns c = bytes_right _ _ _ _ _ _ c.part_of-x.ensures c.if-ear-eq0.false

@@ -1,0 +1,10 @@
+-- `cells::level_mark` meets its contract. Assumes nothing.
+use Rattle.cells.proofs.CellLaws.{mark_digit, mark_full}
+use borrow.Author.Rules.{rules}
+use Rattle.cells.proofs.level_mark.Goals as goal
+
+pub returns-then-t-lt10 : goal.returns-then-t-lt10
+returns-then-t-lt10 c = mark_digit _ c.if-t-lt10.true
+
+pub returns : goal.returns
+returns c = mark_full _ c.if-t-lt10.false

@@ -1,0 +1,13 @@
+-- `census::write_block` meets its contract. Assumes nothing.
+use native.Mathlib.Omega.{arith}
+use lib.ListN.{length-set}
+use Rattle.census.proofs.WriteLaws.{wrote_block}
+use borrow.Author.Rules.{rules}
+use Rattle.census.proofs.write_block.Goals as goal
+
+pub bounds-room-i-2 : goal.bounds-room-i-2
+bounds-room-i-2 c =
+    omega (arith, length-set c.args.room.now c.args.i c.wide64.result)
+
+pub returns : goal.returns
+returns c = wrote_block _ _ _ _ _ _ c.wide64.ensures c.wide64-2.ensures

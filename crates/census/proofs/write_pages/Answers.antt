@@ -1,0 +1,34 @@
+-- `census::write_pages` meets its contract. Assumes nothing.
+use borrow.Author.Rules.{rules}
+use mathlib.Core.Path.{◌≡◌, refl}
+use Prim.Native.Nat.{◌*◌, ◌-◌, ◌≤◌}
+use native.Mathlib.Omega.{arith}
+use Rattle.records.specs.Pool.{pool}
+use Rattle.records.proofs.AdmitLaws.{admitted}
+use Rattle.blocks.specs.Blocks.{live}
+use Rattle.census.proofs.WriteLaws.{Writing, writing_none, writing_all}
+use Rattle.census.proofs.PartLaws.{page_room_lem, page_on}
+use Rattle.blocks.proofs.PageLaws.{live_from, from_start, from_over}
+use Rattle.census.proofs.write_pages.Goals as goal
+
+pub overflow_mul-end : goal.overflow_mul-end
+overflow_mul-end c = let a = admitted _ _ c.requires.0 in let h = a.shape in omega arith
+
+pub loop-g-init : goal.loop-g-init
+loop-g-init c =
+    let a = admitted _ _ c.requires.0 in let h = a.shape in
+    (omega arith, refl, omega arith, writing_none _ _ _ _ (from_start _ _))
+
+pub write_page-i-requires : goal.write_page-i-requires
+write_page-i-requires c =
+    (c.requires.0, (omega arith, page_room_lem _ _ c.loop-g.invariant.3 (omega arith) (omega (arith, c.requires.1))))
+
+pub loop-g-preserved : goal.loop-g-preserved
+loop-g-preserved c =
+    (omega arith, c.loop-g.invariant.1, c.loop-g.invariant.2, page_on _ _ c.loop-g.invariant.3 (omega arith) c.write_page-i.ensures)
+
+pub shape_of-room : goal.shape_of-room
+shape_of-room c = c.loop-g.invariant.3.long
+
+pub returns : goal.returns
+returns c = (writing_all c.loop-g.invariant.3 (from_over _ _ _ (omega arith))).text

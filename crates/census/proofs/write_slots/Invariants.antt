@@ -1,0 +1,20 @@
+-- `census::write_slots` meets its contract. Assumes nothing.
+use borrow.Author.Rules.{rules}
+use mathlib.Core.Path.{◌≡◌}
+use mathlib.Core.Bool.{true}
+use Prim.Native.Nat.{◌+◌, ◌-◌, ◌*◌, ◌≤◌, ◌<◌}
+use native.Mathlib.Omega.{arith}
+use Rattle.bitrow.specs.Row.{is_set}
+use Rattle.records.specs.declared.Kind.TheVariants.{Class}
+use Rattle.records.specs.Kinds.{slots_of}
+use Rattle.census.specs.Writes.{slot_blocks}
+use Rattle.census.proofs.WriteLaws.{Writing, writing_none, writing_all}
+use Rattle.classes.proofs.ClassLaws.{Cut, cut, cut_few, cut_offset}
+use Rattle.census.proofs.PartLaws.{slots_start, slot_room, slot_on, slots_over}
+use Rattle.census.proofs.write_slots.Given as goal
+
+abbrev pub invariant-loop-s : goal.invariant-loop-s
+invariant-loop-s l = (l.s ≤ l.n) × (l.s < l.n → is_set l.slots (512 * l.g + l.s) ≡ true) × Cut l.b l.size l.n × Writing l.initial.room l.i (slot_blocks l.slots l.g l.b 0 (slots_of (Class l.b))) l.room l.k (slot_blocks l.slots l.g l.b l.s (l.n - l.s))
+
+abbrev pub decreases-loop-s : goal.decreases-loop-s
+decreases-loop-s l = l.n - l.s

@@ -1,0 +1,13 @@
+-- `fresh::fresh` meets its contract. Assumes nothing.
+use borrow.Author.Tests.{not-true, not-false}
+use Rattle.fresh.proofs.FillLaws.{fresh_made, fresh_not}
+use borrow.Author.Rules.{rules}
+use Rattle.fresh.proofs.fresh.Goals as goal
+
+pub returns-then-not-is_shaped : goal.returns-then-not-is_shaped
+returns-then-not-is_shaped c = fresh_not _ _ _ c.is_shaped.ensures (not-true _ c.if-not-is_shaped.true)
+
+pub returns : goal.returns
+returns c =
+    fresh_made _ _ _ _ _ _ c.is_shaped.ensures (not-false _ c.if-not-is_shaped.false) c.fill64.ensures
+    c.edge_word.ensures c.fill32.ensures c.fill64-2.ensures

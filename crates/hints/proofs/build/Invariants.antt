@@ -1,0 +1,16 @@
+-- `hints::build` meets its contract. Assumes nothing.
+use Rattle.records.specs.Pool.{pool}
+use Rattle.records.proofs.AdmitLaws.{admitted}
+use Rattle.hints.specs.Hints.{Marks}
+use Rattle.hints.proofs.NoteLaws.{marks_as}
+use Prim.Native.Nat.{◌*◌, ◌-◌, ◌≤◌}
+use mathlib.Core.Path.{◌≡◌, refl}
+use native.Mathlib.Omega.{arith}
+use borrow.Author.Rules.{rules}
+use Rattle.hints.proofs.build.Given as goal
+
+abbrev pub invariant-loop-g : goal.invariant-loop-g
+invariant-loop-g l = (l.g ≤ l.n) × (l.n ≡ 512 * l.c) × (Marks l.g (pool l.bits l.words l.slots) l.rows l.opens)
+
+abbrev pub decreases-loop-g : goal.decreases-loop-g
+decreases-loop-g l = l.n - l.g

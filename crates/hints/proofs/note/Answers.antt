@@ -1,0 +1,36 @@
+-- `hints::note` meets its contract. Assumes nothing.
+use mathlib.Core.Path.{◌≡◌, refl}
+use mathlib.Core.Logic.{⊎_elim}
+use Prim.Native.Nat.{◌*◌, ◌-◌, ◌≤◌}
+use native.Mathlib.Omega.{arith}
+use Rattle.records.specs.Pool.{pool}
+use Rattle.records.proofs.RunLaws.{class_at_low}
+use Rattle.hints.proofs.RowLaws.{lent_long}
+use Rattle.hints.proofs.NoteLaws.{Told, told_none, told_on, told_off, told_byte, Placed, placed, noted_anew}
+use borrow.Author.Rules.{rules}
+use Rattle.hints.proofs.note.Goals as goal
+
+pub loop-k-init : goal.loop-k-init
+loop-k-init c = let sound = c.requires.sound in let cuts = c.requires.cuts in let run = c.requires.run in let inside = c.requires.inside in (omega arith, refl, placed _ _ sound _ _ inside run, told_none _ _ _)
+
+pub loop-k-preserved : goal.loop-k-preserved
+loop-k-preserved c =
+    let h = c.loop-k.invariant in
+    let sound = c.requires.sound in let cuts = c.requires.cuts in let run = c.requires.run in let inside = c.requires.inside in let fits = c.type_inv.slots in (
+      omega arith,
+      h.1,
+      h.2,
+      ⊎_elim (λ w. told_on _ _ sound _ _ inside run _ cuts.0 (fits _).fits h.3 c.loop-k-test.true w.0.taken w.1)
+          (λ w. told_off _ _ sound _ _ inside run _ cuts.0 (fits _).fits h.3 c.loop-k-test.true w.0.left w.1) c.if-slots-g.branch,
+    )
+
+pub overflow_cast-opens : goal.overflow_cast-opens
+overflow_cast-opens c = record { fits = told_byte c.loop-k.invariant.3 (omega arith) }
+
+pub put_mark-requires : goal.put_mark-requires
+put_mark-requires c = let h = c.loop-k.invariant in (lent_long _ _ c.requires.cuts.0.long h.2.class, h.2.few)
+
+pub returns : goal.returns
+returns c =
+    let sound = c.requires.sound in let cuts = c.requires.cuts in let run = c.requires.run in let inside = c.requires.inside in
+    noted_anew _ _ sound _ _ inside run c.args.rows.now c.args.opens.now c.loop-k.invariant.3 (omega arith) _ c.put_mark.ensures

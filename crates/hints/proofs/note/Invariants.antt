@@ -1,0 +1,17 @@
+-- `hints::note` meets its contract. Assumes nothing.
+use mathlib.Core.Path.{◌≡◌, refl}
+use mathlib.Core.Logic.{⊎_elim}
+use Prim.Native.Nat.{◌*◌, ◌-◌, ◌≤◌}
+use native.Mathlib.Omega.{arith}
+use Rattle.records.specs.Pool.{pool}
+use Rattle.records.proofs.RunLaws.{class_at_low}
+use Rattle.hints.proofs.RowLaws.{lent_long}
+use Rattle.hints.proofs.NoteLaws.{Told, told_none, told_on, told_off, told_byte, Placed, placed, noted_anew}
+use borrow.Author.Rules.{rules}
+use Rattle.hints.proofs.note.Given as goal
+
+abbrev pub invariant-loop-k : goal.invariant-loop-k
+invariant-loop-k l = (l.k ≤ 8) × (l.from ≡ 144 * l.b) × (Placed (pool l.bits l.words l.slots) l.g l.b) × (Told l.slots l.b l.g l.k l.o)
+
+abbrev pub decreases-loop-k : goal.decreases-loop-k
+decreases-loop-k l = 8 - l.k

@@ -1,0 +1,41 @@
+-- `marked::reserve_class` meets its contract. Assumes nothing.
+use native.Mathlib.Omega.{arith}
+use Rattle.classes.proofs.ClassLaws.{pages_read}
+use Rattle.records.proofs.AdmitLaws.{admitted}
+use Rattle.reserve.proofs.PlanLaws.{class_pages}
+use Rattle.marked.proofs.ReserveLaws.{class_nowhere, class_room, class_page, class_note, class_noted}
+use borrow.Author.Rules.{rules}
+use Rattle.marked.proofs.reserve_class.Goals as goal
+
+pub find_pages-requires : goal.find_pages-requires
+find_pages-requires c =
+    let sound = c.requires.sound in let marks = c.requires.marks in let class = c.requires.class in let s = (admitted _ _ sound).shape in record { long = omega arith; few = s.few; some = class_pages class (pages_read _ c.class_row-row.ensures c.wide16.ensures) }
+
+pub perform_plan-requires : goal.perform_plan-requires
+perform_plan-requires c =
+    let sound = c.requires.sound in let marks = c.requires.marks in let class = c.requires.class in
+    let pages = pages_read _ c.class_row-row.ensures c.wide16.ensures in
+    (sound, class_room _ _ sound _ _ class pages c.find_pages.ensures _ c.in-At.is)
+
+pub note-requires : goal.note-requires
+note-requires c =
+    let sound = c.requires.sound in let marks = c.requires.marks in let class = c.requires.class in
+    let pages = pages_read _ c.class_row-row.ensures c.wide16.ensures in let both = class_note _ _ sound _ _ class pages c.find_pages.ensures _ c.in-At.is c.perform_plan.ensures marks in record { sound = both.0; cuts = both.1.0; run = both.1.1.0; inside = both.1.1.1 }
+
+pub overflow_mul-g : goal.overflow_mul-g
+overflow_mul-g c =
+    let sound = c.requires.sound in let marks = c.requires.marks in let class = c.requires.class in
+    let pages = pages_read _ c.class_row-row.ensures c.wide16.ensures in
+    let l = class_page _ _ sound _ _ class pages c.find_pages.ensures _ c.in-At.is in omega arith
+
+pub returns-in-At : goal.returns-in-At
+returns-in-At c =
+    let sound = c.requires.sound in let marks = c.requires.marks in let class = c.requires.class in
+    let pages = pages_read _ c.class_row-row.ensures c.wide16.ensures in
+    class_noted _ _ sound _ _ class pages c.find_pages.ensures _ c.in-At.is c.perform_plan.ensures marks c.wide64.ensures c.note.ensures
+
+pub returns-in-Nothing : goal.returns-in-Nothing
+returns-in-Nothing c =
+    let sound = c.requires.sound in let marks = c.requires.marks in let class = c.requires.class in
+    let pages = pages_read _ c.class_row-row.ensures c.wide16.ensures in
+    (class_nowhere _ _ sound _ _ class pages c.find_pages.ensures c.in-Nothing.is, marks)

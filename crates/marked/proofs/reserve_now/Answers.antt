@@ -1,0 +1,30 @@
+-- `marked::reserve_now` meets its contract. Assumes nothing.
+use mathlib.Core.Path.{ap, ◌∙◌}
+use native.Mathlib.Omega.{arith}
+use Rattle.records.specs.Calls.{admit_of}
+use Rattle.reserve.proofs.PlanLaws.{class_low}
+use Rattle.marked.proofs.MarkLaws.{same_marks}
+use Rattle.marked.proofs.ReserveLaws.{slot_taken, none_taken, class_taken}
+use borrow.Author.Rules.{rules}
+use Rattle.marked.proofs.reserve_now.Goals as goal
+
+pub returns-then-n-gt3072 : goal.returns-then-n-gt3072
+returns-then-n-gt3072 c =
+    let given = c.reserve_run.ensures.given in let same = c.reserve_run.ensures.same in (given, same_marks c.requires.marks same)
+
+pub take-t-requires : goal.take-t-requires
+take-t-requires c =
+    let sound = c.requires.sound in let marks = c.requires.marks in (sound, (marks, class_low (omega arith) c.class_of-b.ensures))
+
+pub returns-then-t-ne0 : goal.returns-then-t-ne0
+returns-then-t-ne0 c =
+    let given = c.take-t.ensures.taken in let marks = c.take-t.ensures.marks in
+    (slot_taken _ _ _ _ (omega arith) c.class_of-b.ensures given c.if-t-ne0.true c.wide64.ensures, marks)
+
+pub reserve_class-requires : goal.reserve_class-requires
+reserve_class-requires c =
+    let given = c.take-t.ensures.taken in let marks = c.take-t.ensures.marks in let class = c.class_of-b.ensures in record { sound = ap (admit_of _) (none_taken _ _ _ _ (omega arith) class given (omega arith)) ∙ c.requires.sound; marks = marks; class = class_low (omega arith) class }
+
+pub returns : goal.returns
+returns c =
+    let given = c.reserve_class.ensures.given in let marks = c.reserve_class.ensures.marks in record { given = class_taken _ _ _ _ (omega arith) c.class_of-b.ensures c.take-t.ensures.taken (omega arith) given; marks = marks }

@@ -1,0 +1,44 @@
+-- `next::start_of` meets its contract. Assumes nothing.
+use mathlib.Core.Path.{refl}
+use native.Mathlib.Omega.{arith}
+use Rattle.records.proofs.RunLaws.{lies_as}
+use Rattle.next.proofs.StartLaws.{others_alone, start_run, start_edge, start_here, start_behind}
+use borrow.Author.Rules.{rules}
+use Rattle.next.proofs.start_of.Goals as goal
+
+pub overflow_mul-f : goal.overflow_mul-f
+overflow_mul-f c =
+    let e = c.requires in
+    let l = (start_run _ _ e.0 _ e.1 (lies_as c.in-Class.is c.home_at-home.ensures)).1 in omega arith
+
+pub overflow_sub-q : goal.overflow_sub-q
+overflow_sub-q c =
+    let e = c.requires in
+    let l = (start_run _ _ e.0 _ e.1 (lies_as c.in-Class.is c.home_at-home.ensures)).1 in omega arith
+
+pub slot_from-s-requires : goal.slot_from-s-requires
+slot_from-s-requires c =
+    let e = c.requires in
+    let r = start_run _ _ e.0 _ e.1 (lies_as c.in-Class.is c.home_at-home.ensures) in (r.0, r.2)
+
+pub returns-in-Class : goal.returns-in-Class
+returns-in-Class c =
+    let e = c.requires in
+    (start_run _ _ e.0 _ e.1 (lies_as c.in-Class.is c.home_at-home.ensures)).3 _ c.slot_from-s.ensures
+
+pub returns-in-Edge : goal.returns-in-Edge
+returns-in-Edge c =
+    let e = c.requires in
+    start_edge _ _ e.0 _ e.1 refl (lies_as c.in-Edge.is c.home_at-home.ensures)
+
+pub returns-then-q-eq0 : goal.returns-then-q-eq0
+returns-then-q-eq0 c =
+    let e = c.requires in
+    let o = others_alone c.home_at-home.result.kind c.in_default.keys3 c.home_at-home.ensures in
+    start_here _ _ e.0 _ e.1 o.alone o.off c.if-q-eq0.true
+
+pub returns-in_default : goal.returns-in_default
+returns-in_default c =
+    let e = c.requires in
+    let o = others_alone c.home_at-home.result.kind c.in_default.keys3 c.home_at-home.ensures in
+    start_behind _ _ e.0 _ e.1 refl o.alone c.if-q-eq0.false

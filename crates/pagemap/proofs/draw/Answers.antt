@@ -1,0 +1,40 @@
+-- `pagemap::draw` meets its contract. Assumes nothing.
+use mathlib.Core.Path.{◌∙◌, sym}
+use native.Mathlib.Omega.{arith}
+use Rattle.records.specs.Pool.{pool}
+use Rattle.records.proofs.AdmitLaws.{admitted}
+use Rattle.pagemap.proofs.DrawLaws.{draw_refused, draw_short, draw_whole}
+use borrow.Author.Rules.{rules}
+use Rattle.pagemap.proofs.draw.Goals as goal
+
+pub returns-then-a-ne0 : goal.returns-then-a-ne0
+returns-then-a-ne0 c = (draw_refused _ _ (pool _ _ _) _ c.admit-a.ensures c.if-a-ne0.true, omega arith)
+
+pub room_for-requires : goal.room_for-requires
+room_for-requires c = let s = (admitted _ _ (sym c.admit-a.ensures ∙ c.if-a-ne0.false)).shape in s.few
+
+pub returns-then-out-room_for : goal.returns-then-out-room_for
+returns-then-out-room_for c =
+    let r = c.room_for.ensures in (
+      draw_short _ _ (pool _ _ _) _ c.admit-a.ensures c.if-a-ne0.false (omega (
+        arith,
+        r,
+        c.if-out-room_for.true,
+      )),
+      omega arith,
+    )
+
+pub draw_sound-requires : goal.draw_sound-requires
+draw_sound-requires c =
+    let r = c.room_for.ensures in
+    (sym c.admit-a.ensures ∙ c.if-a-ne0.false, omega (arith, r, c.if-out-room_for.false))
+
+pub returns : goal.returns
+returns c =
+    let w = (c.draw_sound.ensures.drawn, c.draw_sound.ensures.within) in
+    let r = c.room_for.ensures in record {
+      drawn = draw_whole _ _ (pool _ _ _) _ c.admit-a.ensures
+          c.if-a-ne0.false (omega (arith, r, c.if-out-room_for.false))
+          w.0;
+      within = w.1;
+    }

@@ -1,0 +1,16 @@
+-- `pagemap::put_pages` meets its contract. Assumes nothing.
+use borrow.Author.Rules.{rules}
+use mathlib.Core.Path.{◌≡◌, refl}
+use Prim.Native.Nat.{◌-◌, ◌*◌, ◌≤◌}
+use native.Mathlib.Omega.{arith}
+use Rattle.records.specs.Pool.{pool}
+use Rattle.records.proofs.AdmitLaws.{admitted}
+use Rattle.pagemap.proofs.DrawLaws.{Drawing, drawing_first, drawing_kept, drawing_done, drawing_room, drawing_next}
+use Rattle.pagemap.proofs.put_pages.Given as goal
+
+abbrev pub invariant-loop-g : goal.invariant-loop-g
+invariant-loop-g l = (l.g ≤ l.n) × (l.n ≡ 512 * l.c) × Drawing l.svg l.c (pool l.bits l.words l.slots)
+    l.initial.out l.at l.out l.last l.i l.g
+
+abbrev pub decreases-loop-g : goal.decreases-loop-g
+decreases-loop-g l = l.n - l.g

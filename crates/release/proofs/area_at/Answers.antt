@@ -1,0 +1,33 @@
+-- `release::area_at` meets its contract. Assumes nothing.
+use native.Mathlib.Omega.{arith}
+use Rattle.records.proofs.AdmitLaws.{admitted}
+use Rattle.records.proofs.KindLaws.{others_bare}
+use Rattle.records.proofs.RunLaws.{lies_as}
+use Rattle.release.proofs.SpotLaws.{spot_outside, lies_class, lies_first, lies_behind, lies_bare}
+use borrow.Author.Rules.{rules}
+use Rattle.release.proofs.area_at.Goals as goal
+
+pub overflow_mul-c : goal.overflow_mul-c
+overflow_mul-c c = let s = (admitted _ _ c.requires).shape in omega arith
+
+pub returns-then-c-q : goal.returns-then-c-q
+returns-then-c-q c = spot_outside _ _ _ c.if-c-q.true
+
+pub returns-in-Class : goal.returns-in-Class
+returns-in-Class c =
+    lies_class _ _ c.requires _ (omega arith) _ _ (lies_as c.in-Class.is c.home_at-home.ensures)
+
+pub returns-then-at-eq0 : goal.returns-then-at-eq0
+returns-then-at-eq0 c =
+    lies_first _ _ c.requires _ (omega arith) _ _ (lies_as c.in-Large.is
+    c.home_at-home.ensures) c.if-at-eq0.true
+
+pub returns-in-Large : goal.returns-in-Large
+returns-in-Large c =
+    lies_behind _ _ c.requires _ (omega arith) _ _ (lies_as c.in-Large.is
+    c.home_at-home.ensures) c.if-at-eq0.false
+
+pub returns-in_default : goal.returns-in_default
+returns-in_default c =
+    lies_bare _ _ c.requires _ (omega arith) _ _ (others_bare c.home_at-home.result.kind
+    c.in_default.keys3) c.home_at-home.ensures

@@ -1,0 +1,39 @@
+-- `resize::settle` meets its contract. Assumes nothing.
+use native.Mathlib.Omega.{arith}
+use Rattle.resize.proofs.Forms.{spot_low, recut_there, settle_refused, settle_kept, settle_recut, settle_move}
+use borrow.Author.Rules.{rules}
+use Rattle.widths.proofs.wide64.Reads as wide64-reads
+use Rattle.resize.proofs.settle.Goals as goal
+
+pub change_of-requires : goal.change_of-requires
+change_of-requires c = let ok = c.requires.sound in let at = c.requires.spot in spot_low _ _ ok _ at
+
+pub returns-in-Refuse : goal.returns-in-Refuse
+returns-in-Refuse c =
+    settle_refused _ _ _ _ _ c.change_of.ensures c.in-Refuse.is c.refused.ensures
+
+pub returns-in-Stay : goal.returns-in-Stay
+returns-in-Stay c =
+    settle_kept _ _ _ _ _ c.change_of.ensures c.in-Stay.is c.kept.ensures
+
+pub recut_run-requires : goal.recut_run-requires
+recut_run-requires c =
+    let ok = c.requires.sound in let at = c.requires.spot in record { sound = ok; run = (recut_there _ _ _ _ _ c.change_of.ensures ok at c.in-Recut.is).0; pages = (recut_there _ _ _ _ _ c.change_of.ensures ok at c.in-Recut.is).1 }
+
+pub overflow_add-j : goal.overflow_add-j
+overflow_add-j c =
+    let ok = c.requires.sound in let at = c.requires.spot in
+    let few = (recut_there _ _ _ _ _ c.change_of.ensures ok at c.in-Recut.is).1.few in omega arith
+
+pub overflow_mul-wide64 : goal.overflow_mul-wide64
+overflow_mul-wide64 c =
+    let ok = c.requires.sound in let at = c.requires.spot in
+    let few = (recut_there _ _ _ _ _ c.change_of.ensures ok at c.in-Recut.is).1.few in omega arith
+
+pub returns-in-Recut : goal.returns-in-Recut
+returns-in-Recut c =
+    settle_recut _ _ _ _ _ c.change_of.ensures c.in-Recut.is c.recut_run.ensures
+    c.wide64.ensures c.kept-in-Recut.ensures
+
+pub returns-in-Move : goal.returns-in-Move
+returns-in-Move c = settle_move _ _ _ _ _ c.change_of.ensures c.in-Move.is

@@ -1,0 +1,31 @@
+-- `sweep::free_words` meets its contract. Assumes nothing.
+use borrow.Author.Rules.{rules}
+use Prim.Native.Nat.{◌≤◌, ◌-◌}
+use native.Mathlib.Omega.{arith}
+use mathlib.Core.Logic.{⊎_elim}
+use mathlib.Core.Path.{◌∙◌}
+use Rattle.sweep.specs.Found.{WordsFreed}
+use Rattle.sweep.proofs.FreeLaws.{word_kept, word_freed, freed_none, freed_more, freed_done}
+use Rattle.sweep.proofs.free_words.Goals as goal
+
+pub loop-i-init : goal.loop-i-init
+loop-i-init c = (omega arith, freed_none _ _ _)
+
+pub bounds-words-k : goal.bounds-words-k
+bounds-words-k c = omega (arith, c.loop-i.invariant.1.long)
+
+pub bounds-words-k-in-loop-i : goal.bounds-words-k-in-loop-i
+bounds-words-k-in-loop-i c = omega (arith, c.loop-i.invariant.1.long)
+
+pub loop-i-preserved : goal.loop-i-preserved
+loop-i-preserved c = (
+  omega arith,
+  freed_more _ c.loop-i.invariant.1 (omega arith)
+      (⊎_elim (λ x. x.1 ∙ word_kept _ _ _ x.0.taken) (λ x. x.1 ∙ word_freed _ _ _ x.0.left) c.if-w-i-eq1.branch),
+)
+
+pub shape_of-words : goal.shape_of-words
+shape_of-words c = c.loop-i.invariant.1.long
+
+pub returns : goal.returns
+returns c = freed_done c.loop-i.invariant.1 c.loop-i.invariant.0 (omega arith)

@@ -1,0 +1,15 @@
+-- `sweep::free_words` meets its contract. Assumes nothing.
+use borrow.Author.Rules.{rules}
+use Prim.Native.Nat.{◌≤◌, ◌-◌}
+use native.Mathlib.Omega.{arith}
+use mathlib.Core.Logic.{⊎_elim}
+use mathlib.Core.Path.{◌∙◌}
+use Rattle.sweep.specs.Found.{WordsFreed}
+use Rattle.sweep.proofs.FreeLaws.{word_kept, word_freed, freed_none, freed_more, freed_done}
+use Rattle.sweep.proofs.free_words.Given as goal
+
+abbrev pub invariant-loop-i : goal.invariant-loop-i
+invariant-loop-i l = (l.i ≤ 64) × WordsFreed l.initial.words l.words l.k l.w l.i
+
+abbrev pub decreases-loop-i : goal.decreases-loop-i
+decreases-loop-i l = 64 - l.i

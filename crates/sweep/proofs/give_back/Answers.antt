@@ -1,0 +1,52 @@
+-- `sweep::give_back` meets its contract. Assumes nothing.
+use borrow.Author.Rules.{rules}
+use mathlib.Core.Logic.{⊎_elim}
+use Prim.Native.Nat.{◌*◌, ◌≤◌, ◌-◌}
+use native.Mathlib.Omega.{arith}
+use Rattle.records.specs.Pool.{pool}
+use Rattle.records.proofs.AdmitLaws.{admitted}
+use Rattle.blocks.proofs.KeepLaws.{admit_good}
+use Rattle.sweep.specs.Sweep.{swept}
+use Rattle.sweep.proofs.SpareLaws.{Giving, giving_none, giving_on, giving_stays, giving_done}
+use Rattle.sweep.proofs.give_back.Goals as goal
+
+pub overflow_mul-n : goal.overflow_mul-n
+overflow_mul-n c = let l = (admitted _ _ c.requires.sound).shape in omega arith
+
+pub loop-k-init : goal.loop-k-init
+loop-k-init c = (omega arith, (admitted _ _ c.requires.sound).shape.few, giving_none _ _)
+
+pub bounds-bits-k : goal.bounds-bits-k
+bounds-bits-k c =
+    let l = (admitted _ _ c.requires.sound).shape in
+    omega (arith, c.loop-k.invariant.2.bits_long)
+
+pub free_64-requires : goal.free_64-requires
+free_64-requires c =
+    let l = (admitted _ _ c.requires.sound).shape in
+    (omega arith, omega (arith, c.loop-k.invariant.2.words_long))
+
+pub bounds-bits-k-then-bits-k : goal.bounds-bits-k-then-bits-k
+bounds-bits-k-then-bits-k c =
+    let l = (admitted _ _ c.requires.sound).shape in
+    omega (arith, c.loop-k.invariant.2.bits_long)
+
+pub loop-k-preserved : goal.loop-k-preserved
+loop-k-preserved c =
+    let (k, few, f) = c.loop-k.invariant in
+    let good = admit_good _ _ c.requires.sound in
+    let x = c.requires.spare.words c.loop-k.k (omega arith) in (
+      omega arith,
+      few,
+      ⊎_elim (λ z. rw (z.5, z.6) (giving_on good f (omega arith) x z.2.ensures))
+          (λ z. rw (z.1, z.2) (giving_stays good f (omega arith) x z.0.left)) c.if-bits-k.branch,
+    )
+
+pub shape_of-bits : goal.shape_of-bits
+shape_of-bits c = c.loop-k.invariant.2.bits_long
+
+pub shape_of-words : goal.shape_of-words
+shape_of-words c = c.loop-k.invariant.2.words_long
+
+pub returns : goal.returns
+returns c = giving_done (admit_good _ _ c.requires.sound) c.loop-k.invariant.2 (omega arith)

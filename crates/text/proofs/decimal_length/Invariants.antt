@@ -1,0 +1,12 @@
+-- `text::decimal_length` meets its contract. Assumes nothing.
+use Rattle.text.proofs.TextLaws.{Digits, digits_first, digits_room, digits_next, digits_full, digits_done}
+use Prim.Native.Nat.{◌-◌}
+use native.Mathlib.Omega.{arith}
+use borrow.Author.Rules.{rules}
+use Rattle.text.proofs.decimal_length.Given as goal
+
+abbrev pub invariant-loop-p : goal.invariant-loop-p
+invariant-loop-p l = Digits l.n l.p l.k
+
+abbrev pub decreases-loop-p : goal.decreases-loop-p
+decreases-loop-p l = 20 - l.k

@@ -1,0 +1,23 @@
+-- `totals::totals_sound` meets its contract. Assumes nothing.
+use mathlib.Core.Path.{refl}
+use native.Mathlib.Omega.{arith}
+use Rattle.records.proofs.AdmitLaws.{admitted}
+use Rattle.totals.proofs.PageLaws.{free_read, totals_made}
+use borrow.Author.Rules.{rules}
+use Rattle.totals.proofs.totals_sound.Goals as goal
+
+pub overflow_mul-n : goal.overflow_mul-n
+overflow_mul-n c = let s = (admitted _ _ c.requires).shape in omega arith
+
+pub count_bits-taken-requires : goal.count_bits-taken-requires
+count_bits-taken-requires c = let s = (admitted _ _ c.requires).shape in (omega arith, omega arith)
+
+pub overflow_sub-n : goal.overflow_sub-n
+overflow_sub-n c =
+    let h = free_read _ _ c.requires _ _ refl c.count_bits-taken.ensures in omega arith
+
+pub returns : goal.returns
+returns c =
+    let h = free_read _ _ c.requires _ _ refl c.count_bits-taken.ensures in
+    totals_made _ _ _ _ _ _ c.live_amount-t.ensures c.wide64.ensures
+    c.wide64-2.ensures c.wide64-3.ensures (omega arith)
