@@ -9,5 +9,5 @@ use Rattle.bitrow.proofs.first_zero.Goals as goal
 pub returns : goal.returns
 returns c =
     let w = c.args.w in
-    subst (Lowest 64 w 0) (sym (ap (count_trailing_zeros 64) c.wrapping_add_u64.ensures ∙ trailing_mod 64 (w + 1)))
+    subst (Lowest 64 w 0) (sym (ap (count_trailing_zeros 64) c.wrapping_add_u64.ensures.value ∙ trailing_mod 64 (w + 1)))
     (trailing_lowest 64 0 w (omega arith))

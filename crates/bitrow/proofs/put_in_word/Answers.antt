@@ -13,4 +13,4 @@ returns c =
     let i = c.args.i in
     let v = digit c.args.v in
     ap (set ws (i / 64)) (c.put_mask.ensures ∙ ap (with_mask v (get_or ws (i / 64) 0)) c.mask-b.ensures)
-    ∙ put_word v ws i c.args.m (digit_lt c.args.v) (λ j. (c.type_inv.words j).fits) (omega arith) (omega arith)
+    ∙ put_word v ws i c.args.m (digit_lt c.args.v) (λ j. (c.slice_known-1.given j).fits) (omega arith) (omega arith)

@@ -19,3 +19,6 @@ loop-p-smaller c = let inv = c.loop-p.invariant in omega (arith, inv.few)
 
 pub returns : goal.returns
 returns c = digits_done c.loop-p.invariant c.loop-p-test.false
+
+pub loop-p-init : goal.loop-p-init
+loop-p-init c = digits_first _
