@@ -6,10 +6,10 @@ use borrow.Author.Tests.{eqb-true, eqb-false}
 use Rattle.admit.proofs.edge_ok.Goals as goal
 
 pub returns-then-i-ne0 : goal.returns-then-i-ne0
-returns-then-i-ne0 c = (λ e z. absurd (omega arith), λ e. absurd (false≢true (sym e)))
+returns-then-i-ne0 c = record { yes = λ e z. absurd (omega arith); no = λ e. absurd (false≢true (sym e)) }
 
 pub returns-then-left-ne0 : goal.returns-then-left-ne0
-returns-then-left-ne0 c = (λ e z. absurd (false≢true e), λ e. (omega arith, λ l w. omega arith))
+returns-then-left-ne0 c = record { yes = λ e z. absurd (false≢true e); no = λ e. (omega arith, λ l w. omega arith) }
 
 pub returns : goal.returns
 returns c = record { yes = λ e z. (omega arith, eqb-true _ _ e); no = λ e. (omega arith, λ l w. eqb-false _ _ e w) }

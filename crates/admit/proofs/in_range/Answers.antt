@@ -6,7 +6,7 @@ use borrow.Author.Tests.{ltb-true, lt-ltb}
 use Rattle.admit.proofs.in_range.Goals as goal
 
 pub returns-then-w-lo : goal.returns-then-w-lo
-returns-then-w-lo c = (λ e. absurd (false≢true e), λ e a b. omega arith)
+returns-then-w-lo c = record { yes = λ e. absurd (false≢true e); no = λ e a b. omega arith }
 
 pub returns : goal.returns
 returns c = record { yes = λ e. (omega arith, ltb-true _ _ e); no = λ e a b. false≢true (sym e ∙ lt-ltb _ _ b) }

@@ -8,17 +8,16 @@ use Rattle.admit.proofs.PageLaws.{Walked, walked_start, walked_on, walked_off, w
 use Rattle.admit.proofs.mixed_64.Goals as goal
 
 pub returns-then-not-edge_ok : goal.returns-then-not-edge_ok
-returns-then-not-edge_ok c = let f = c.edge_ok.ensures.no (not-true _ c.if-not-edge_ok.true) in edge_off _ _ _ _ f.0 f.1
+returns-then-not-edge_ok c = let f = c.edge_ok.ensures.no c.if-not-edge_ok.true in edge_off _ _ _ _ f.0 f.1
 
 pub loop-p-init : goal.loop-p-init
 loop-p-init c =
     let inside = c.requires.inside in let ready = c.requires.ready in
-    (omega arith, walked_start _ _ _ _ ready (c.edge_ok.ensures.yes (not-false _ c.if-not-edge_ok.false)))
+    (omega arith, walked_start _ _ _ _ ready (c.edge_ok.ensures.yes c.if-not-edge_ok.false))
 
 pub page-s-requires : goal.page-s-requires
 page-s-requires c =
-    let inside = c.requires.inside in let ready = c.requires.ready in
-    (omega arith, (omega arith, (inside.table, (inside.behind, c.loop-p.invariant.1.ready))))
+    let inside = c.requires.inside in let ready = c.requires.ready in record { low = omega arith; long = omega arith; table = inside.table; behind = inside.behind; ready = c.loop-p.invariant.1.ready }
 
 pub returns-then-not-s : goal.returns-then-not-s
 returns-then-not-s c =
@@ -29,7 +28,7 @@ pub loop-p-preserved : goal.loop-p-preserved
 loop-p-preserved c = (
   omega arith,
   walked_on c.loop-p.invariant.1 (omega arith) (λ j. (c.type_inv.slots j).fits)
-      c.page-s.ensures (not-false _ c.if-not-s.false),
+      c.page-s.ensures c.if-not-s.false,
 )
 
 pub returns : goal.returns

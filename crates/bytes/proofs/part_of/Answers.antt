@@ -6,19 +6,19 @@ use Rattle.bytes.proofs.PartLaws.{part_unfit, part_refused, part_served}
 use Rattle.bytes.proofs.part_of.Goals as goal
 
 pub returns-then-not-ear_fits : goal.returns-then-not-ear_fits
-returns-then-not-ear_fits c = part_unfit _ _ _ _ _ _ c.ear_fits.ensures (not-true _ c.if-not-ear_fits.true)
+returns-then-not-ear_fits c = part_unfit _ _ _ _ _ _ c.ear_fits.ensures c.if-not-ear_fits.true
 
 pub returns-then-a-ne0 : goal.returns-then-a-ne0
 returns-then-a-ne0 c =
-    part_refused _ _ _ _ _ _ c.ear_fits.ensures (not-false _ c.if-not-ear_fits.false)
+    part_refused _ _ _ _ _ _ c.ear_fits.ensures c.if-not-ear_fits.false
     (size_refused _ _ _ _ c.admit-a.ensures c.if-a-ne0.true) c.if-a-ne0.true
 
 pub returns-then-s-ne0 : goal.returns-then-s-ne0
 returns-then-s-ne0 c =
-    part_refused _ _ _ _ _ _ c.ear_fits.ensures (not-false _ c.if-not-ear_fits.false)
+    part_refused _ _ _ _ _ _ c.ear_fits.ensures c.if-not-ear_fits.false
     (size_served _ _ _ _ c.admit-a.ensures c.if-a-ne0.false c.size_sound-s.ensures) c.if-s-ne0.true
 
 pub returns : goal.returns
 returns c =
-    part_served _ _ _ _ _ _ c.ear_fits.ensures (not-false _ c.if-not-ear_fits.false)
+    part_served _ _ _ _ _ _ c.ear_fits.ensures c.if-not-ear_fits.false
     (size_served _ _ _ _ c.admit-a.ensures c.if-a-ne0.false c.size_sound-s.ensures) c.if-s-ne0.false

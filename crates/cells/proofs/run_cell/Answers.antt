@@ -14,8 +14,7 @@ count_bits-n-requires c =
 pub level_of-t-requires : goal.level_of-t-requires
 level_of-t-requires c =
     let class = c.requires.class in let long = c.requires.long in let low = c.requires.low in
-    let s = run_slots _ class c.class_row-row.ensures c.wide16-s.ensures in
-    (run_most _ _ c.count_bits-n.ensures, (s.0, s.1))
+    let s = run_slots _ class c.class_row-row.ensures c.wide16-s.ensures in record { order = run_most _ _ c.count_bits-n.ensures; some = s.0; few = s.1 }
 
 pub returns : goal.returns
 returns c =

@@ -20,8 +20,7 @@ loop-g-init c =
     (omega arith, refl, omega arith, writing_none _ _ _ _ (from_start _ _))
 
 pub write_page-i-requires : goal.write_page-i-requires
-write_page-i-requires c =
-    (c.requires.0, (omega arith, page_room_lem _ _ c.loop-g.invariant.3 (omega arith) (omega (arith, c.requires.1))))
+write_page-i-requires c = record { sound = c.requires.0; inside = omega arith; room = page_room_lem _ _ c.loop-g.invariant.3 (omega arith) (omega (arith, c.requires.1)) }
 
 pub loop-g-preserved : goal.loop-g-preserved
 loop-g-preserved c =

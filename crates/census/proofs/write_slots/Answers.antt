@@ -15,8 +15,7 @@ use Rattle.census.proofs.write_slots.Goals as goal
 
 pub next_taken-s-requires : goal.next_taken-s-requires
 next_taken-s-requires c =
-    let k = cut c.class_row-row.ensures c.wide16-size.ensures c.wide16-n.ensures in
-    (omega arith, (omega arith, (omega arith, cut_few k)))
+    let k = cut c.class_row-row.ensures c.wide16-size.ensures c.wide16-n.ensures in record { low = omega arith; long = omega arith; order = omega arith; few = cut_few k }
 
 pub loop-s-init : goal.loop-s-init
 loop-s-init c =
@@ -44,7 +43,7 @@ overflow_add-s c = let k = cut_few c.loop-s.invariant.2 in omega arith
 
 pub next_taken-s-requires-in-loop-s : goal.next_taken-s-requires-in-loop-s
 next_taken-s-requires-in-loop-s c =
-    let k = c.loop-s.invariant.2 in (omega arith, (omega arith, (omega arith, cut_few k)))
+    let k = c.loop-s.invariant.2 in record { low = omega arith; long = omega arith; order = omega arith; few = cut_few k }
 
 pub loop-s-smaller : goal.loop-s-smaller
 loop-s-smaller c = let t = c.next_taken-s-in-loop-s.ensures in omega arith

@@ -5,9 +5,9 @@ use borrow.Author.Rules.{rules}
 use Rattle.fresh.proofs.fresh.Goals as goal
 
 pub returns-then-not-is_shaped : goal.returns-then-not-is_shaped
-returns-then-not-is_shaped c = fresh_not _ _ _ c.is_shaped.ensures (not-true _ c.if-not-is_shaped.true)
+returns-then-not-is_shaped c = fresh_not _ _ _ c.is_shaped.ensures c.if-not-is_shaped.true
 
 pub returns : goal.returns
 returns c =
-    fresh_made _ _ _ _ _ _ c.is_shaped.ensures (not-false _ c.if-not-is_shaped.false) c.fill64.ensures
+    fresh_made _ _ _ _ _ _ c.is_shaped.ensures c.if-not-is_shaped.false c.fill64.ensures
     c.edge_word.ensures c.fill32.ensures c.fill64-2.ensures

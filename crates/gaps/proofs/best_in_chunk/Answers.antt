@@ -17,7 +17,7 @@ loop-i-init c = (refl, chunk_start (omega arith))
 
 pub best_in_word-s-requires : goal.best_in_word-s-requires
 best_in_word-s-requires c =
-    let l = c.loop-i in (omega arith, (omega arith, l.invariant.1.ready))
+    let l = c.loop-i in record { room = omega arith; some = omega arith; ready = l.invariant.1.ready }
 
 pub loop-i-preserved : goal.loop-i-preserved
 loop-i-preserved c =
@@ -32,5 +32,5 @@ returns c =
     let l = c.loop-i in
     let n = c.args.n in
     c.better_gap.ensures
-    ∙ ⊎_elim (λ e. chunk_settled l.invariant.1 _ (eqb-true l.s.best.len n (not-false _ e.2.left)))
+    ∙ ⊎_elim (λ e. chunk_settled l.invariant.1 _ (e.2.left))
     (λ e. chunk_done l.invariant.1 e.left (omega arith)) c.loop-i-test.branch

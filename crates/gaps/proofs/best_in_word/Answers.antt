@@ -34,7 +34,7 @@ pub returns-else-r-n : goal.returns-else-r-n
 returns-else-r-n c =
     let l = c.loop-edges in
     let room = c.requires.room in let some = c.requires.some in let ready = c.requires.ready in
-    word_settled room l.invariant (eqb-true l.r.best.len c.args.n (not-false _ c.if-r-n.false))
+    word_settled room l.invariant (c.if-r-n.false)
 
 pub returns-after-loop-edges : goal.returns-after-loop-edges
 returns-after-loop-edges c =

@@ -19,18 +19,17 @@ abbrev start : goal.Else-s-rows → goal.Start
 start c = c
 
 pub returns-then-s-rows : goal.returns-then-s-rows
-returns-then-s-rows c = let h = held c in (gave_between h c.if-s-rows.true, h.marks)
+returns-then-s-rows c = let h = held c in record { given = gave_between h c.if-s-rows.true; marks = h.marks }
 
 pub bounds-slots-i : goal.bounds-slots-i
 bounds-slots-i c = word_inside (held (start c)) c.if-s-rows.false
 
 pub returns-then-rows-from : goal.returns-then-rows-from
-returns-then-rows-from c = let h = held (start c) in (gave_behind h c.if-s-rows.false c.if-rows-from.true, h.marks)
+returns-then-rows-from c = let h = held (start c) in record { given = gave_behind h c.if-s-rows.false c.if-rows-from.true; marks = h.marks }
 
 pub returns-then-w-bit-eq0 : goal.returns-then-w-bit-eq0
 returns-then-w-bit-eq0 c =
-    let h = held (start c) in let l = c.if-rows-from.false in
-    (gave_free h c.if-s-rows.false (omega arith) c.if-w-bit-eq0.true, h.marks)
+    let h = held (start c) in let l = c.if-rows-from.false in record { given = gave_free h c.if-s-rows.false (omega arith) c.if-w-bit-eq0.true; marks = h.marks }
 
 pub free_bit-requires : goal.free_bit-requires
 free_bit-requires c =

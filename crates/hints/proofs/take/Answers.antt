@@ -28,13 +28,15 @@ pub take_at-requires : goal.take_at-requires
 take_at-requires c = (low c).0
 
 pub returns-then-low-ne0 : goal.returns-then-low-ne0
-returns-then-low-ne0 c = (low c).1 _ _ _ _ c.take_at.ensures
+returns-then-low-ne0 c =
+    let both = (low c).1 _ _ _ _ c.take_at.ensures in record { taken = both.0; marks = both.1 }
 
 pub take_at-requires-then-high-ne0 : goal.take_at-requires-then-high-ne0
 take_at-requires-then-high-ne0 c = (high c).0
 
 pub returns-then-high-ne0 : goal.returns-then-high-ne0
-returns-then-high-ne0 c = (high c).1 _ _ _ _ c.take_at-then-high-ne0.ensures
+returns-then-high-ne0 c =
+    let both = (high c).1 _ _ _ _ c.take_at-then-high-ne0.ensures in record { taken = both.0; marks = both.1 }
 
 pub returns : goal.returns
 returns c =

@@ -12,18 +12,16 @@ overflow_mul-c c =
     let s = (admitted _ _ c.requires.sound).shape in omega arith
 
 pub returns-then-c-q : goal.returns-then-c-q
-returns-then-c-q c =
-    (give_outside _ _ _ c.if-c-q.true, c.requires.marks)
+returns-then-c-q c = record { given = give_outside _ _ _ c.if-c-q.true; marks = c.requires.marks }
 
 pub returns-then-not-in_class : goal.returns-then-not-in_class
 returns-then-not-in_class c =
     let sound = c.requires.sound in let marks = c.requires.marks in
-    let out = sym c.in_class.ensures ∙ not-true _ c.if-not-in_class.true in
-    (c.release_sound.ensures, out_marks _ _ sound _ (omega arith) out marks c.release_sound.ensures)
+    let out = sym c.in_class.ensures ∙ c.if-not-in_class.true in record { given = c.release_sound.ensures; marks = out_marks _ _ sound _ (omega arith) out marks c.release_sound.ensures }
 
 pub class_run-run-requires : goal.class_run-run-requires
 class_run-run-requires c =
-    let sound = c.requires.sound in let marks = c.requires.marks in (sound, (omega arith, sym c.in_class.ensures ∙ not-false _ c.if-not-in_class.false))
+    let sound = c.requires.sound in let marks = c.requires.marks in record { sound = sound; inside = omega arith; class = sym c.in_class.ensures ∙ c.if-not-in_class.false }
 
 pub overflow_sub-off : goal.overflow_sub-off
 overflow_sub-off c =

@@ -31,11 +31,9 @@ overflow_mul-g c =
 pub returns-in-At : goal.returns-in-At
 returns-in-At c =
     let sound = c.requires.sound in let marks = c.requires.marks in let class = c.requires.class in
-    let pages = pages_read _ c.class_row-row.ensures c.wide16.ensures in
-    class_noted _ _ sound _ _ class pages c.find_pages.ensures _ c.in-At.is c.perform_plan.ensures marks c.wide64.ensures c.note.ensures
+    let pages = pages_read _ c.class_row-row.ensures c.wide16.ensures in let both = class_noted _ _ sound _ _ class pages c.find_pages.ensures _ c.in-At.is c.perform_plan.ensures marks c.wide64.ensures c.note.ensures in record { given = both.0; marks = both.1 }
 
 pub returns-in-Nothing : goal.returns-in-Nothing
 returns-in-Nothing c =
     let sound = c.requires.sound in let marks = c.requires.marks in let class = c.requires.class in
-    let pages = pages_read _ c.class_row-row.ensures c.wide16.ensures in
-    (class_nowhere _ _ sound _ _ class pages c.find_pages.ensures c.in-Nothing.is, marks)
+    let pages = pages_read _ c.class_row-row.ensures c.wide16.ensures in record { given = class_nowhere _ _ sound _ _ class pages c.find_pages.ensures c.in-Nothing.is; marks = marks }

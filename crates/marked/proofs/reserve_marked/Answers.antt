@@ -6,7 +6,7 @@ use Rattle.marked.proofs.reserve_marked.Goals as goal
 
 pub returns-then-r-ne-NO_ROOM : goal.returns-then-r-ne-NO_ROOM
 returns-then-r-ne-NO_ROOM c =
-    let given = c.reserve_now-r.ensures.given in let marks = c.reserve_now-r.ensures.marks in (coded_now _ _ c.requires.sound _ given c.if-r-ne-NO_ROOM.true, marks)
+    let given = c.reserve_now-r.ensures.given in let marks = c.reserve_now-r.ensures.marks in record { given = coded_now _ _ c.requires.sound _ given c.if-r-ne-NO_ROOM.true; marks = marks }
 
 pub reserve_swept-requires : goal.reserve_swept-requires
 reserve_swept-requires c =

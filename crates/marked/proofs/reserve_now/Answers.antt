@@ -10,16 +10,15 @@ use Rattle.marked.proofs.reserve_now.Goals as goal
 
 pub returns-then-n-gt3072 : goal.returns-then-n-gt3072
 returns-then-n-gt3072 c =
-    let given = c.reserve_run.ensures.given in let same = c.reserve_run.ensures.same in (given, same_marks c.requires.marks same)
+    let given = c.reserve_run.ensures.given in let same = c.reserve_run.ensures.same in record { given = given; marks = same_marks c.requires.marks same }
 
 pub take-t-requires : goal.take-t-requires
 take-t-requires c =
-    let sound = c.requires.sound in let marks = c.requires.marks in (sound, (marks, class_low (omega arith) c.class_of-b.ensures))
+    let sound = c.requires.sound in let marks = c.requires.marks in record { sound = sound; marks = marks; class = class_low (omega arith) c.class_of-b.ensures }
 
 pub returns-then-t-ne0 : goal.returns-then-t-ne0
 returns-then-t-ne0 c =
-    let given = c.take-t.ensures.taken in let marks = c.take-t.ensures.marks in
-    (slot_taken _ _ _ _ (omega arith) c.class_of-b.ensures given c.if-t-ne0.true c.wide64.ensures, marks)
+    let given = c.take-t.ensures.taken in let marks = c.take-t.ensures.marks in record { given = slot_taken _ _ _ _ (omega arith) c.class_of-b.ensures given c.if-t-ne0.true c.wide64.ensures; marks = marks }
 
 pub reserve_class-requires : goal.reserve_class-requires
 reserve_class-requires c =

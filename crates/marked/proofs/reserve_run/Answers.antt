@@ -7,7 +7,7 @@ use Rattle.marked.proofs.reserve_run.Goals as goal
 
 pub returns-then-n-gt2093056 : goal.returns-then-n-gt2093056
 returns-then-n-gt2093056 c =
-    let sound = c.requires.sound in let large = c.requires.large in run_huge _ _ sound _ large c.if-n-gt2093056.true
+    let sound = c.requires.sound in let large = c.requires.large in let both = run_huge _ _ sound _ large c.if-n-gt2093056.true in record { given = both.0; same = both.1 }
 
 pub find_pages-requires : goal.find_pages-requires
 find_pages-requires c =
@@ -26,10 +26,8 @@ overflow_mul-g c =
 
 pub returns-in-At : goal.returns-in-At
 returns-in-At c =
-    let sound = c.requires.sound in let large = c.requires.large in
-    run_put _ _ sound _ large _ c.if-n-gt2093056.false c.pages_for-m.ensures c.find_pages.ensures _ c.in-At.is c.wide64.ensures c.put_large.ensures
+    let sound = c.requires.sound in let large = c.requires.large in let both = run_put _ _ sound _ large _ c.if-n-gt2093056.false c.pages_for-m.ensures c.find_pages.ensures _ c.in-At.is c.wide64.ensures c.put_large.ensures in record { given = both.0; same = both.1 }
 
 pub returns-in-Nothing : goal.returns-in-Nothing
 returns-in-Nothing c =
-    let sound = c.requires.sound in let large = c.requires.large in
-    run_nowhere _ _ sound _ large _ c.if-n-gt2093056.false c.pages_for-m.ensures c.find_pages.ensures c.in-Nothing.is
+    let sound = c.requires.sound in let large = c.requires.large in let both = run_nowhere _ _ sound _ large _ c.if-n-gt2093056.false c.pages_for-m.ensures c.find_pages.ensures c.in-Nothing.is in record { given = both.0; same = both.1 }

@@ -6,12 +6,11 @@ use Rattle.marked.proofs.reserve_swept.Goals as goal
 
 pub make_room-x-requires : goal.make_room-x-requires
 make_room-x-requires c =
-    let sound = c.requires.sound in let marks = c.requires.marks in let full = c.requires.full in (sound, sym full)
+    let sound = c.requires.sound in let marks = c.requires.marks in let full = c.requires.full in record { sound = sound; plan = sym full }
 
 pub returns-then-is_full : goal.returns-then-is_full
 returns-then-is_full c =
-    let sound = c.requires.sound in let marks = c.requires.marks in let full = c.requires.full in let left = c.make_room-x.ensures.left in let planned = c.make_room-x.ensures.plan in
-    coded_full _ _ sound _ marks left planned (sym c.is_full.ensures ∙ c.if-is_full.true)
+    let sound = c.requires.sound in let marks = c.requires.marks in let full = c.requires.full in let left = c.make_room-x.ensures.left in let planned = c.make_room-x.ensures.plan in let both = coded_full _ _ sound _ marks left planned (sym c.is_full.ensures ∙ c.if-is_full.true) in record { given = both.0; marks = both.1 }
 
 pub perform_plan-requires : goal.perform_plan-requires
 perform_plan-requires c =

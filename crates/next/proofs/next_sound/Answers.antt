@@ -135,7 +135,7 @@ overflow_add-chunk c =
 
 pub next_bit-requires-in-loop-page : goal.next_bit-requires-in-loop-page
 next_bit-requires-in-loop-page c =
-    let s = (admitted _ _ c.requires).shape in (omega arith, (omega arith, omega arith))
+    let s = (admitted _ _ c.requires).shape in record { order = omega arith; long = omega arith; low = omega arith }
 
 pub overflow_mul-page-in-loop-page : goal.overflow_mul-page-in-loop-page
 overflow_mul-page-in-loop-page c =

@@ -4,4 +4,4 @@ use borrow.Author.Rules.{rules}
 use Rattle.pagemap.proofs.draw_svg.Goals as goal
 
 pub returns : goal.returns
-returns c = let w = (c.draw.ensures.drawn, c.draw.ensures.within) in record { drawn = w.0; within = counted _ _ w.1 }
+returns c = record { drawn = c.draw.ensures.drawn; within = counted _ _ c.draw.ensures.within }

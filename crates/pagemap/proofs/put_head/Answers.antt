@@ -12,7 +12,7 @@ put_filled-requires c = omega (arith, ap head_room c.if-svg.true)
 pub returns-then-svg : goal.returns-then-svg
 unfolding head_of
 returns-then-svg c =
-    let e = c.if-svg.true in rw e (c.put_filled.ensures.appends, omega arith)
+    let e = c.if-svg.true in let both = rw e (c.put_filled.ensures.appends, omega arith) in record { text = both.0; room = both.1 }
 
 pub returns : goal.returns
 unfolding head_of

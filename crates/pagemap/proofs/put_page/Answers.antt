@@ -10,7 +10,8 @@ put_svg_page-requires c =
     let room = c.requires.room in let low = c.requires.low in let joined = c.requires.joined in let level = c.requires.level in record { room = omega (arith, ap page_room c.if-svg.true, room); low = low; joined = joined; level = level }
 
 pub returns-then-svg : goal.returns-then-svg
-returns-then-svg c = rw c.if-svg.true (c.put_svg_page.ensures.text, c.put_svg_page.ensures.room)
+returns-then-svg c =
+    let both = rw c.if-svg.true (c.put_svg_page.ensures.text, c.put_svg_page.ensures.room) in record { text = both.0; room = both.1 }
 
 pub put_filled-requires : goal.put_filled-requires
 put_filled-requires c =

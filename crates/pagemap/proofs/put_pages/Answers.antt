@@ -16,14 +16,13 @@ loop-g-init c = (omega arith, refl, drawing_first)
 
 pub page_cell-last-requires : goal.page_cell-last-requires
 page_cell-last-requires c =
-    let l = c.loop-g.invariant in
-    (c.requires.0, (omega arith, l.2.level))
+    let l = c.loop-g.invariant in record { sound = c.requires.0; inside = omega arith; level = l.2.level }
 
 pub put_page-i-requires : goal.put_page-i-requires
 put_page-i-requires c =
     let l = c.loop-g.invariant in
     let s = (admitted _ _ c.requires.0).shape in
-    let p = c.page_cell-last.ensures in (drawing_room l.2 (omega arith) c.requires.1, (omega arith, (p.1, p.2)))
+    let p = c.page_cell-last.ensures in record { room = drawing_room l.2 (omega arith) c.requires.1; low = omega arith; joined = p.1; level = p.2 }
 
 pub overflow_add-g : goal.overflow_add-g
 overflow_add-g c =
@@ -32,12 +31,11 @@ overflow_add-g c =
 
 pub loop-g-preserved : goal.loop-g-preserved
 loop-g-preserved c =
-    let l = c.loop-g.invariant in
-    let w = (c.put_page-i.ensures.text, c.put_page-i.ensures.room) in (
+    let l = c.loop-g.invariant in (
       omega arith,
       l.1,
       drawing_next l.2 (omega arith) c.page_cell-last.ensures
-          c.wide64.ensures w.0 w.1,
+          c.wide64.ensures c.put_page-i.ensures.text c.put_page-i.ensures.room,
     )
 
 pub shape_of-out : goal.shape_of-out

@@ -7,7 +7,7 @@ use borrow.Author.Rules.{rules}
 use Rattle.reserve.proofs.has_slot.Goals as goal
 
 pub returns-then-not-is_run_of : goal.returns-then-not-is_run_of
-returns-then-not-is_run_of c = has_not _ _ _ c.is_run_of.ensures (not-true _ c.if-not-is_run_of.true)
+returns-then-not-is_run_of c = has_not _ _ _ c.is_run_of.ensures c.if-not-is_run_of.true
 
 pub lowest_free-requires : goal.lowest_free-requires
 lowest_free-requires c =
@@ -17,5 +17,5 @@ lowest_free-requires c =
 pub returns : goal.returns
 returns c =
     let sound = c.requires.sound in let inside = c.requires.inside in let class = c.requires.class in let count = c.requires.count in
-    has_by_slot _ _ _ c.is_run_of.ensures (not-false _ c.if-not-is_run_of.false) count
+    has_by_slot _ _ _ c.is_run_of.ensures c.if-not-is_run_of.false count
     c.lowest_free.ensures

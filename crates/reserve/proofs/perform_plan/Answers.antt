@@ -34,8 +34,7 @@ put_slot-requires-in-NewClass c =
     let start = c in
     let h = (admitted _ _ start.requires.0).shape in
     let r : (_ < 30) × PagesFree _ _ _ _ = ok_as _ _ c.in-NewClass.is start.requires.1 in let i = r.1.inside in
-    let k = r.1.some in
-    (omega arith, (omega arith, omega arith))
+    let k = r.1.some in record { low = omega arith; slot = omega arith; long = omega arith }
 
 pub returns-in-NewClass : goal.returns-in-NewClass
 returns-in-NewClass c =

@@ -12,8 +12,7 @@ overflow_mul-c c =
 pub lowest_free-s-requires : goal.lowest_free-s-requires
 lowest_free-s-requires c =
     let sound = c.requires.sound in let class = c.requires.class in let count = c.requires.count in let first = c.requires.first in let a = admitted _ _ sound in
-    let h = a.shape in
-    (omega arith, (omega arith, (count, class_few class count)))
+    let h = a.shape in record { low = omega arith; long = omega arith; count = count; few = class_few class count }
 
 pub returns-then-g-c : goal.returns-then-g-c
 returns-then-g-c c =

@@ -10,11 +10,11 @@ change_of-requires c = let ok = c.requires.sound in let at = c.requires.spot in 
 
 pub returns-in-Refuse : goal.returns-in-Refuse
 returns-in-Refuse c =
-    settle_refused _ _ _ _ _ c.change_of.ensures c.in-Refuse.is c.refused.ensures
+    let both = settle_refused _ _ _ _ _ c.change_of.ensures c.in-Refuse.is c.refused.ensures in record { left = both.0; told = both.1 }
 
 pub returns-in-Stay : goal.returns-in-Stay
 returns-in-Stay c =
-    settle_kept _ _ _ _ _ c.change_of.ensures c.in-Stay.is c.kept.ensures
+    let both = settle_kept _ _ _ _ _ c.change_of.ensures c.in-Stay.is c.kept.ensures in record { left = both.0; told = both.1 }
 
 pub recut_run-requires : goal.recut_run-requires
 recut_run-requires c =
@@ -32,8 +32,9 @@ overflow_mul-wide64 c =
 
 pub returns-in-Recut : goal.returns-in-Recut
 returns-in-Recut c =
-    settle_recut _ _ _ _ _ c.change_of.ensures c.in-Recut.is c.recut_run.ensures
-    c.wide64.ensures c.kept-in-Recut.ensures
+    let both = settle_recut _ _ _ _ _ c.change_of.ensures c.in-Recut.is c.recut_run.ensures
+    c.wide64.ensures c.kept-in-Recut.ensures in record { left = both.0; told = both.1 }
 
 pub returns-in-Move : goal.returns-in-Move
-returns-in-Move c = settle_move _ _ _ _ _ c.change_of.ensures c.in-Move.is
+returns-in-Move c =
+    let both = settle_move _ _ _ _ _ c.change_of.ensures c.in-Move.is in record { left = both.0; told = both.1 }

@@ -14,7 +14,7 @@ loop-i-init c =
 
 pub empty_page-e-requires : goal.empty_page-e-requires
 empty_page-e-requires c =
-    let sound = c.requires.sound in let inside = c.requires.inside in let last = c.requires.last in (sound, (omega arith, c.loop-i.invariant.2.end))
+    let sound = c.requires.sound in let inside = c.requires.inside in let last = c.requires.last in record { sound = sound; inside = omega arith; last = c.loop-i.invariant.2.end }
 
 pub loop-i-preserved : goal.loop-i-preserved
 loop-i-preserved c =

@@ -18,7 +18,7 @@ loop-k-init c =
 
 pub empty_64-x-requires : goal.empty_64-x-requires
 empty_64-x-requires c =
-    let sound = c.requires.sound in let long = c.requires.long in (sound, (omega arith, c.loop-k.invariant.2.end))
+    let sound = c.requires.sound in let long = c.requires.long in record { sound = sound; inside = omega arith; last = c.loop-k.invariant.2.end }
 
 pub bounds-bits-k : goal.bounds-bits-k
 bounds-bits-k c =

@@ -26,8 +26,7 @@ bounds-table-class_in c = let f = told_few _ _ _ c.kind_at-k.ensures in omega ar
 
 pub page_amount-t-requires : goal.page_amount-t-requires
 page_amount-t-requires c =
-    let s = (admitted _ _ c.requires).shape in
-    (omega arith, (omega arith, ((told_few _ _ _ c.kind_at-k.ensures).1, row_read _ _ _ _ c.class_rows-table.ensures refl c.class_in.ensures)))
+    let s = (admitted _ _ c.requires).shape in record { long = omega arith; low = omega arith; span = (told_few _ _ _ c.kind_at-k.ensures).1; row = row_read _ _ _ _ c.class_rows-table.ensures refl c.class_in.ensures }
 
 pub overflow_add-blocks : goal.overflow_add-blocks
 overflow_add-blocks c =

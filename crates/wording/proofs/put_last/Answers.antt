@@ -5,9 +5,7 @@ use borrow.Author.Rules.{rules}
 use Rattle.wording.proofs.put_last.Goals as goal
 
 pub returns-then-refusal-eq0 : goal.returns-then-refusal-eq0
-returns-then-refusal-eq0 c =
-    (last_live _ _ _ c.if-refusal-eq0.true c.put_filled.ensures.appends, omega arith)
+returns-then-refusal-eq0 c = record { text = last_live _ _ _ c.if-refusal-eq0.true c.put_filled.ensures.appends; room = omega arith }
 
 pub returns-else-refusal-eq0 : goal.returns-else-refusal-eq0
-returns-else-refusal-eq0 c =
-    (last_refused _ _ _ c.if-refusal-eq0.false c.put_filled-else-refusal-eq0.ensures.appends, omega arith)
+returns-else-refusal-eq0 c = record { text = last_refused _ _ _ c.if-refusal-eq0.false c.put_filled-else-refusal-eq0.ensures.appends; room = omega arith }

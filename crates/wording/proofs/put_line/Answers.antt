@@ -34,42 +34,43 @@ put_filled-requires-in-Unresized c = omega (arith, ap event_bytes c.in-Unresized
 pub returns-in-Started : goal.returns-in-Started
 unfolding line_of
 returns-in-Started c =
-    line_as c.in-Started.is c.put_filled.ensures.appends (omega arith)
+    let both = line_as c.in-Started.is c.put_filled.ensures.appends (omega arith) in record { text = both.0; room = both.1 }
 
 pub returns-in-Served : goal.returns-in-Served
 unfolding line_of
 returns-in-Served c =
-    line_as c.in-Served.is c.put_filled-in-Served.ensures.appends (omega arith)
+    let both = line_as c.in-Served.is c.put_filled-in-Served.ensures.appends (omega arith) in record { text = both.0; room = both.1 }
 
 pub returns-in-Denied : goal.returns-in-Denied
 unfolding line_of
 returns-in-Denied c =
-    line_as c.in-Denied.is c.put_filled-in-Denied.ensures.appends (omega arith)
+    let both = line_as c.in-Denied.is c.put_filled-in-Denied.ensures.appends (omega arith) in record { text = both.0; room = both.1 }
 
 pub returns-in-Freed : goal.returns-in-Freed
 unfolding line_of
 returns-in-Freed c =
-    line_as c.in-Freed.is c.put_filled-in-Freed.ensures.appends (omega arith)
+    let both = line_as c.in-Freed.is c.put_filled-in-Freed.ensures.appends (omega arith) in record { text = both.0; room = both.1 }
 
 pub returns-in-Unfreed : goal.returns-in-Unfreed
 unfolding line_of
 returns-in-Unfreed c =
-    line_as c.in-Unfreed.is c.put_filled-in-Unfreed.ensures.appends (omega arith)
+    let both = line_as c.in-Unfreed.is c.put_filled-in-Unfreed.ensures.appends (omega arith) in record { text = both.0; room = both.1 }
 
 pub returns-in-Kept : goal.returns-in-Kept
 unfolding line_of
 returns-in-Kept c =
-    line_as c.in-Kept.is c.put_filled-in-Kept.ensures.appends (omega arith)
+    let both = line_as c.in-Kept.is c.put_filled-in-Kept.ensures.appends (omega arith) in record { text = both.0; room = both.1 }
 
 pub returns-in-Moved : goal.returns-in-Moved
 unfolding line_of
 returns-in-Moved c =
-    line_as c.in-Moved.is c.put_filled-in-Moved.ensures.appends (omega arith)
+    let both = line_as c.in-Moved.is c.put_filled-in-Moved.ensures.appends (omega arith) in record { text = both.0; room = both.1 }
 
 pub returns-in-Unresized : goal.returns-in-Unresized
 unfolding line_of
 returns-in-Unresized c =
-    line_as c.in-Unresized.is c.put_filled-in-Unresized.ensures.appends (omega arith)
+    let both = line_as c.in-Unresized.is c.put_filled-in-Unresized.ensures.appends (omega arith) in record { text = both.0; room = both.1 }
 
 pub returns-in-Ended : goal.returns-in-Ended
-returns-in-Ended c = line_as c.in-Ended.is line_none (omega arith)
+returns-in-Ended c =
+    let both = line_as c.in-Ended.is line_none (omega arith) in record { text = both.0; room = both.1 }
