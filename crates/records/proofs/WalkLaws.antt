@@ -120,7 +120,7 @@ walk_found K (w ∷ ws) g (suc n) h =
     let s = walk_next K (w ∷ ws) g n h in
     let (p, q) = step_inner w ws (K g) s.due s.steps in
     let (l, f) = walk_found K ws (suc g) n (subst (λ (u : List ℕ). walk K u (suc g) n ≡ true) q s.walks) in
-    (omega arith, λ i. elim i [ zero ↦ λ a. ap K (add-zero g) ∙ p | suc j ↦ λ a. ap K (omega arith) ∙ f j (omega arith) ])
+    (omega arith, λ i. elim i as (λ (k : ℕ). k < suc (length ws) → K (g + k) ≡ Inner (get_or (w ∷ ws) k 0)) [ zero ↦ λ a. ap K (add-zero g) ∙ p | suc j ↦ λ a. ap K (omega arith) ∙ f j (omega arith) ])
 
 -- a page that no run has inside
 abbrev pub Begins : Kind → Type 0
