@@ -195,9 +195,9 @@ fn mixed_64(
     masks: &[u64; 240],
     behinds: &[u32; 30],
 ) -> Progress
-    requires inside { Inside i (lent bits words slots) masks.now behinds.now }
+    requires inside { Inside i (lent bits.now words.now slots.now) masks.now behinds.now }
     requires ready { Ready left due }
-    ensures { Checked (before bits words slots) i left due result.ok result.left result.due }
+    ensures { Checked (before bits.now words.now slots.now) i left due result.ok result.left result.due }
 {
     if !edge_ok(i, left, words[64 * i]) {
         return Progress {
@@ -242,7 +242,7 @@ fn free_64(bits: &[u64], words: &[u32], slots: &[u64], i: usize) -> bool
     requires zero { get_or bits.now i 0 ≡ 0 }
     requires word { 64 * i + 64 ≤ length words.now }
     requires slot { 512 * i + 512 ≤ length slots.now }
-    ensures { Checked (before bits words slots) i 0 0 result 0 0 }
+    ensures { Checked (before bits.now words.now slots.now) i 0 0 result 0 0 }
 {
     let mut acc: u64 = 0;
     let mut p = 0;
@@ -267,9 +267,9 @@ fn pages_64(
     masks: &[u64; 240],
     behinds: &[u32; 30],
 ) -> Progress
-    requires inside { Inside i (lent bits words slots) masks.now behinds.now }
+    requires inside { Inside i (lent bits.now words.now slots.now) masks.now behinds.now }
     requires ready { Ready left due }
-    ensures { Checked (before bits words slots) i left due result.ok result.left result.due }
+    ensures { Checked (before bits.now words.now slots.now) i left due result.ok result.left result.due }
 {
     if left == 0 {
         if i % 8 != 0 {
@@ -292,7 +292,7 @@ fn pages_sound(bits: &[u64], words: &[u32], slots: &[u64], n: usize) -> bool
     requires bit { n ≤ length bits.now }
     requires word { 64 * n ≤ length words.now }
     requires slot { 512 * n ≤ length slots.now }
-    ensures { result ≡ sound_from (before bits words slots) [] 0 (64 * n) }
+    ensures { result ≡ sound_from (before bits.now words.now slots.now) [] 0 (64 * n) }
 {
     let masks = masks::mask_table();
     let behinds = behind_table();
@@ -313,7 +313,7 @@ fn pages_sound(bits: &[u64], words: &[u32], slots: &[u64], n: usize) -> bool
 
 // The check of lent records (RULES 4.2, 6.1): 1 no such pool, 2 damaged, 0 sound.
 pub fn admit(c: u64, bits: &[u64], words: &[u32], slots: &[u64]) -> u64
-    ensures { result ≡ admit_of c (before bits words slots) }
+    ensures { result ≡ admit_of c (before bits.now words.now slots.now) }
 {
     if !records::is_shaped(c, bits.len(), words.len(), slots.len()) {
         return SHAPE;

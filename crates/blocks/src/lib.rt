@@ -18,7 +18,7 @@ pub fn put_slot(bits: &[u64], words: &mut [u32], slots: &mut [u64], g: usize, s:
     requires low { g < 8192 }
     requires slot { s < 512 }
     requires long { 512 * g + 512 ≤ 64 * length slots.old }
-    ensures { after bits words slots ≡ put_slot (digit v) (before bits words slots) g s }
+    ensures { after bits.now words.new slots.new ≡ put_slot (digit v) (before bits.now words.old slots.old) g s }
 {
     bitrow::put_bit(slots, 512 * g + s, v);
 }
@@ -28,7 +28,7 @@ pub fn put_slot(bits: &[u64], words: &mut [u32], slots: &mut [u64], g: usize, s:
 pub fn fill_word(bits: &[u64], words: &mut [u32], slots: &mut [u64], i: usize) -> u64
     requires { i < length slots.old }
     ensures { (g k t : ℕ) → i ≡ 8 * g + k → t < 64 → Lowest 64 (slice_index slots.old i) 0 t
-        → (result ≡ word_put 1 (slice_index slots.old i) t) × (after bits words slots ≡ put_slot 1 (before bits words slots) g (64 * k + t)) }
+        → (result ≡ word_put 1 (slice_index slots.old i) t) × (after bits.now words.new slots.new ≡ put_slot 1 (before bits.now words.old slots.old) g (64 * k + t)) }
 {
     let w = slots[i];
     let v = w | std::num::wrapping_add_u64(w, 1);
@@ -40,7 +40,7 @@ pub fn fill_word(bits: &[u64], words: &mut [u32], slots: &mut [u64], i: usize) -
 pub fn free_bit(bits: &[u64], words: &mut [u32], slots: &mut [u64], i: usize, bit: u64)
     requires { (i < length slots.old) × (bit ≤ slice_index slots.old i) }
     ensures { (g s : ℕ) → i ≡ 8 * g + s / 64 → bit ≡ 2 ^ (s % 64) → bit_at slots.old (512 * g + s) ≡ 1
-        → after bits words slots ≡ put_slot 0 (before bits words slots) g s }
+        → after bits.now words.new slots.new ≡ put_slot 0 (before bits.now words.old slots.old) g s }
 {
     slots[i] = slots[i] - bit;
 }
@@ -67,7 +67,7 @@ pub fn put_class(bits: &mut [u64], words: &mut [u32], slots: &[u64], g: usize, b
     requires low { g + pages b ≤ 8192 }
     requires bit { g + pages b ≤ 64 * length bits.old }
     requires word { g + pages b ≤ length words.old }
-    ensures { after bits words slots ≡ put_run 1 (before bits words slots) g (words_of (Class b)) }
+    ensures { after bits.new words.new slots.now ≡ put_run 1 (before bits.old words.old slots.now) g (words_of (Class b)) }
 {
     let row = classes::class_row(b);
     let n = widths::wide16(row.pages);
@@ -78,7 +78,7 @@ pub fn put_class(bits: &mut [u64], words: &mut [u32], slots: &[u64], g: usize, b
 // A large run at page g, with k pages behind it. These have the word 0 already, so only the first is written.
 pub fn put_large(bits: &mut [u64], words: &mut [u32], slots: &[u64], g: usize, k: usize)
     requires { LargeRoom g k bits.old words.old }
-    ensures { after bits words slots ≡ put_run 1 (before bits words slots) g (words_of (Large k)) }
+    ensures { after bits.new words.new slots.now ≡ put_run 1 (before bits.old words.old slots.now) g (words_of (Large k)) }
 {
     bitrow::put_bits(bits, g, k + 1, true);
     words[g] = records::large_word(k + 1);
@@ -87,7 +87,7 @@ pub fn put_large(bits: &mut [u64], words: &mut [u32], slots: &[u64], g: usize, k
 // The pages of a large run at page g, with k pages behind it, are free again. Only the first has a word to clear.
 pub fn free_large(bits: &mut [u64], words: &mut [u32], slots: &[u64], g: usize, k: usize)
     requires { LargeRoom g k bits.old words.old }
-    ensures { after bits words slots ≡ put_run 0 (before bits words slots) g (zeros (suc k)) }
+    ensures { after bits.new words.new slots.now ≡ put_run 0 (before bits.old words.old slots.now) g (zeros (suc k)) }
 {
     bitrow::put_bits(bits, g, k + 1, false);
     words[g] = 0;

@@ -50,7 +50,7 @@ pub fn part_of(
     nleft: usize,
     nright: usize,
 ) -> Part
-    ensures { result ≡ part_of ear c (before bits words slots) q nleft nright }
+    ensures { result ≡ part_of ear c (before bits.now words.now slots.now) q nleft nright }
 {
     if !ear_fits(ear, c, nleft, nright) {
         return Part {
@@ -93,7 +93,7 @@ pub fn bytes<'a>(
     left: &'a [u8],
     right: &'a [u8],
 ) -> &'a [u8]
-    ensures { result.now ≡ bytes_of ear c (before bits words slots) q left.now right.now }
+    ensures { result.now ≡ bytes_of ear c (before bits.now words.now slots.now) q left.now right.now }
 {
     let x = part_of(ear, c, bits, words, slots, q, left.len(), right.len());
     let a = x.start as usize;
@@ -115,7 +115,7 @@ pub fn bytes_refusal(
     left: &[u8],
     right: &[u8],
 ) -> u64
-    ensures { result ≡ bytes_refusal_of ear c (before bits words slots) q left.now right.now }
+    ensures { result ≡ bytes_refusal_of ear c (before bits.now words.now slots.now) q left.now right.now }
 {
     let x = part_of(ear, c, bits, words, slots, q, left.len(), right.len());
     x.refusal

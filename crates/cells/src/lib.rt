@@ -89,10 +89,10 @@ fn goes_on(last: Cell) -> Cell
 
 // What page g shows, behind the cell `last`, on records that are sound.
 pub fn page_cell(c: u64, bits: &[u64], words: &[u32], slots: &[u64], g: usize, last: Cell) -> Cell
-    requires sound { admit_of c (lent bits words slots) ≡ 0 }
+    requires sound { admit_of c (lent bits.now words.now slots.now) ≡ 0 }
     requires inside { g < 512 * c }
     requires level { last.level ≤ 10 }
-    ensures { (result ≡ cell_at (before bits words slots) last g)
+    ensures { (result ≡ cell_at (before bits.now words.now slots.now) last g)
         × (result.joined ≤ 1) × (result.level ≤ 10) }
 {
     let k = records::kind_at(c, bits, words, slots, g);

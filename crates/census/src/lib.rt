@@ -72,10 +72,10 @@ fn write_page(
     room: &mut [u64],
     i: usize,
 ) -> usize
-    requires sound { admit_of c (lent bits words slots) ≡ 0 }
+    requires sound { admit_of c (lent bits.now words.now slots.now) ≡ 0 }
     requires inside { g < 512 * c }
-    requires room { i + 2 * length (page_blocks (lent bits words slots) g) ≤ length room.old }
-    ensures { Wrote room.new room.old result i (page_blocks (before bits words slots) g) }
+    requires room { i + 2 * length (page_blocks (lent bits.now words.now slots.now) g) ≤ length room.old }
+    ensures { Wrote room.new room.old result i (page_blocks (before bits.now words.now slots.now) g) }
 {
     let k = records::kind_at(c, bits, words, slots, g);
     match k {
@@ -93,8 +93,8 @@ fn write_page(
 
 // Writes all live blocks, page by page.
 fn write_pages(c: u64, bits: &[u64], words: &[u32], slots: &[u64], room: &mut [u64])
-    requires { (admit_of c (lent bits words slots) ≡ 0) × (2 * length (live c (lent bits words slots)) ≤ length room.old) }
-    ensures { room.new ≡ sets room.old 0 (words_for (live c (before bits words slots))) }
+    requires { (admit_of c (lent bits.now words.now slots.now) ≡ 0) × (2 * length (live c (lent bits.now words.now slots.now)) ≤ length room.old) }
+    ensures { room.new ≡ sets room.old 0 (words_for (live c (before bits.now words.now slots.now))) }
 {
     let end = 512 * (c as usize);
     let mut i = 0;
@@ -107,8 +107,8 @@ fn write_pages(c: u64, bits: &[u64], words: &[u32], slots: &[u64], room: &mut [u
 
 // The work of a census, on records that are sound. Half of the room is compared: twice the count might not fit a number.
 pub fn census_sound(c: u64, bits: &[u64], words: &[u32], slots: &[u64], room: &mut [u64]) -> Counted
-    requires { admit_of c (lent bits words slots) ≡ 0 }
-    ensures { leaves result room.new ≡ list c (before bits words slots) room.old }
+    requires { admit_of c (lent bits.now words.now slots.now) ≡ 0 }
+    ensures { leaves result room.new ≡ list c (before bits.now words.now slots.now) room.old }
 {
     let n = totals::live_count(c, bits, words, slots);
     if room.len() / 2 < n {

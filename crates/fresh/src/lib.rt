@@ -45,7 +45,7 @@ fn fill32(words: &mut [u32], m: usize, v: u32)
 
 // Fresh (RULES 5.1): 0, and the records of a pool of c chunks in which only each chunk's page 0 is taken; or 1, and nothing is changed.
 pub fn fresh(c: u64, bits: &mut [u64], words: &mut [u32], slots: &mut [u64]) -> u64
-    ensures { leaves result (after bits words slots) ≡ fresh_of c (before bits words slots) }
+    ensures { leaves result (after bits.new words.new slots.new) ≡ fresh_of c (before bits.old words.old slots.old) }
 {
     if !records::is_shaped(c, bits.len(), words.len(), slots.len()) {
         return SHAPE;

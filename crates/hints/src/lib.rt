@@ -55,9 +55,9 @@ fn take_at(
     j: usize,
     top: u64,
 ) -> usize
-    requires { Front (lent bits words slots) row.old opens.old j top }
-    ensures { (f : Front (before bits words slots) row.old opens.old j top)
-        → Took f result (after bits words slots) row.new opens.new }
+    requires { Front (lent bits.now words.old slots.old) row.old opens.old j top }
+    ensures { (f : Front (before bits.now words.old slots.old) row.old opens.old j top)
+        → Took f result (after bits.now words.new slots.new) row.new opens.new }
 {
     let m = row[j];
     let g = 64 * j + bitrow::first_one(m) as usize;
@@ -84,11 +84,11 @@ pub fn take(
     opens: &mut [u8],
     b: usize,
 ) -> usize
-    requires sound { admit_of c (lent bits words slots) ≡ 0 }
-    requires marks { Marks (512 * c) (lent bits words slots) rows.old opens.old }
+    requires sound { admit_of c (lent bits.now words.old slots.old) ≡ 0 }
+    requires marks { Marks (512 * c) (lent bits.now words.old slots.old) rows.old opens.old }
     requires class { b < 30 }
-    ensures taken { leaves result (after bits words slots) ≡ taking c (before bits words slots) b }
-    ensures marks { Marks (512 * c) (after bits words slots) rows.new opens.new }
+    ensures taken { leaves result (after bits.now words.new slots.new) ≡ taking c (before bits.now words.old slots.old) b }
+    ensures marks { Marks (512 * c) (after bits.now words.new slots.new) rows.new opens.new }
 {
     let from = ROW * b;
     let to = from + ROW;
@@ -118,12 +118,12 @@ pub fn give(
     b: usize,
     off: usize,
 ) -> u64
-    requires sound { admit_of c (lent bits words slots) ≡ 0 }
-    requires marks { Marks (512 * c) (lent bits words slots) rows.old opens.old }
-    requires run { kind_at (lent bits words slots) g ≡ Class b }
+    requires sound { admit_of c (lent bits.now words.old slots.old) ≡ 0 }
+    requires marks { Marks (512 * c) (lent bits.now words.old slots.old) rows.old opens.old }
+    requires run { kind_at (lent bits.now words.old slots.old) g ≡ Class b }
     requires inside { (g < 512 * c) × (off < 4096 * pages b) }
-    ensures given { leaves result (after bits words slots) ≡ giving (before bits words slots) g b off }
-    ensures marks { Marks (512 * c) (after bits words slots) rows.new opens.new }
+    ensures given { leaves result (after bits.now words.new slots.new) ≡ giving (before bits.now words.old slots.old) g b off }
+    ensures marks { Marks (512 * c) (after bits.now words.new slots.new) rows.new opens.new }
 {
     let from = ROW * b;
     let s = (off * (rows[from + SHARE] as usize)) / 4294967296;
@@ -168,11 +168,11 @@ pub fn note(
     g: usize,
     b: usize,
 )
-    requires sound { admit_of c (lent bits words slots) ≡ 0 }
+    requires sound { admit_of c (lent bits.now words.now slots.now) ≡ 0 }
     requires cuts { (Cuts rows.old) × (length opens.old ≡ 8192) }
-    requires run { kind_at (lent bits words slots) g ≡ Class b }
+    requires run { kind_at (lent bits.now words.now slots.now) g ≡ Class b }
     requires inside { g < 512 * c }
-    ensures { Noted (before bits words slots) b g rows.old opens.old rows.new opens.new }
+    ensures { Noted (before bits.now words.now slots.now) b g rows.old opens.old rows.new opens.new }
 {
     let from = ROW * b;
     let mut o: u64 = 0;
@@ -198,10 +198,10 @@ fn note_page(
     opens: &mut [u8],
     g: usize,
 )
-    requires sound { admit_of c (lent bits words slots) ≡ 0 }
-    requires marks { Marks g (lent bits words slots) rows.old opens.old }
+    requires sound { admit_of c (lent bits.now words.now slots.now) ≡ 0 }
+    requires marks { Marks g (lent bits.now words.now slots.now) rows.old opens.old }
     requires inside { g < 512 * c }
-    ensures { Marks (g + 1) (before bits words slots) rows.new opens.new }
+    ensures { Marks (g + 1) (before bits.now words.now slots.now) rows.new opens.new }
 {
     match records::kind_at(c, bits, words, slots, g) {
         records::Kind::Class(b) => {
@@ -215,10 +215,10 @@ fn note_page(
 
 // The marks of a pool, whatever the rows held.
 pub fn build(c: u64, bits: &[u64], words: &[u32], slots: &[u64], rows: &mut [u64], opens: &mut [u8])
-    requires sound { admit_of c (lent bits words slots) ≡ 0 }
+    requires sound { admit_of c (lent bits.now words.now slots.now) ≡ 0 }
     requires long { length rows.old ≡ 4320 }
     requires wide { length opens.old ≡ 8192 }
-    ensures { Marks (512 * c) (before bits words slots) rows.new opens.new }
+    ensures { Marks (512 * c) (before bits.now words.now slots.now) rows.new opens.new }
 {
     start_rows(rows);
     let n = 512 * (c as usize);

@@ -81,7 +81,7 @@ fn flat_reserved(r: reserve::Reserved) -> FlatReserved
 // Whether lent records are sound: refusal 1 or 2, or 0.
 #[unsafe(no_mangle)]
 pub extern "C" fn lensember_check(c: u64, bits: &[u64], words: &[u32], slots: &[u64]) -> u64
-    ensures { result ≡ admit_of c (before bits words slots) }
+    ensures { result ≡ admit_of c (before bits.now words.now slots.now) }
 {
     admit::admit(c, bits, words, slots)
 }
@@ -94,7 +94,7 @@ pub extern "C" fn lensember_fresh(
     words: &mut [u32],
     slots: &mut [u64],
 ) -> u64
-    ensures { leaves result (after bits words slots) ≡ fresh_of c (before bits words slots) }
+    ensures { leaves result (after bits.new words.new slots.new) ≡ fresh_of c (before bits.old words.old slots.old) }
 {
     fresh::fresh(c, bits, words, slots)
 }
@@ -108,7 +108,7 @@ pub extern "C" fn lensember_reserve(
     slots: &mut [u64],
     size: u64,
 ) -> FlatReserved
-    ensures { leaves result (after bits words slots) ≡ reserved_of (reserve_of c (before bits words slots) size) }
+    ensures { leaves result (after bits.new words.new slots.new) ≡ reserved_of (reserve_of c (before bits.old words.old slots.old) size) }
 {
     let a = admit::admit(c, bits, words, slots);
     if a != 0 {
@@ -126,7 +126,7 @@ pub extern "C" fn lensember_release(
     slots: &mut [u64],
     place: u64,
 ) -> u64
-    ensures { leaves result (after bits words slots) ≡ release_of c (before bits words slots) place }
+    ensures { leaves result (after bits.new words.new slots.new) ≡ release_of c (before bits.old words.old slots.old) place }
 {
     let a = admit::admit(c, bits, words, slots);
     if a != 0 {
@@ -145,7 +145,7 @@ pub extern "C" fn lensember_resize(
     place: u64,
     size: u64,
 ) -> resize::Resized
-    ensures { leaves result (after bits words slots) ≡ resize_of c (before bits words slots) place size }
+    ensures { leaves result (after bits.new words.new slots.new) ≡ resize_of c (before bits.old words.old slots.old) place size }
 {
     let a = admit::admit(c, bits, words, slots);
     if a != 0 {
@@ -162,7 +162,7 @@ pub extern "C" fn lensember_sweep(
     words: &mut [u32],
     slots: &mut [u64],
 ) -> sweep::Swept
-    ensures { leaves result (after bits words slots) ≡ sweep_of c (before bits words slots) }
+    ensures { leaves result (after bits.new words.new slots.new) ≡ sweep_of c (before bits.old words.old slots.old) }
 {
     let a = admit::admit(c, bits, words, slots);
     if a != 0 {
@@ -183,7 +183,7 @@ pub extern "C" fn lensember_block_size(
     slots: &[u64],
     place: u64,
 ) -> release::Sized
-    ensures { result ≡ size_of c (before bits words slots) place }
+    ensures { result ≡ size_of c (before bits.now words.now slots.now) place }
 {
     let a = admit::admit(c, bits, words, slots);
     if a != 0 {
@@ -204,7 +204,7 @@ pub extern "C" fn lensember_next(
     slots: &[u64],
     place: u64,
 ) -> next::Next
-    ensures { result ≡ next_of c (before bits words slots) place }
+    ensures { result ≡ next_of c (before bits.now words.now slots.now) place }
 {
     let a = admit::admit(c, bits, words, slots);
     if a != 0 {
@@ -226,7 +226,7 @@ pub extern "C" fn lensember_census(
     slots: &[u64],
     room: &mut [u64],
 ) -> census::Counted
-    ensures { leaves result room.new ≡ census_of c (before bits words slots) room.old }
+    ensures { leaves result room.new ≡ census_of c (before bits.now words.now slots.now) room.old }
 {
     let a = admit::admit(c, bits, words, slots);
     if a != 0 {
@@ -246,7 +246,7 @@ pub extern "C" fn lensember_totals(
     words: &[u32],
     slots: &[u64],
 ) -> totals::Sums
-    ensures { result ≡ totals_of c (before bits words slots) }
+    ensures { result ≡ totals_of c (before bits.now words.now slots.now) }
 {
     let a = admit::admit(c, bits, words, slots);
     if a != 0 {
@@ -272,7 +272,7 @@ pub extern "C" fn lensember_bytes(
     nleft: usize,
     nright: usize,
 ) -> bytes::Part
-    ensures { result ≡ part_of ear c (before bits words slots) place nleft nright }
+    ensures { result ≡ part_of ear c (before bits.now words.now slots.now) place nleft nright }
 {
     bytes::part_of(ear, c, bits, words, slots, place, nleft, nright)
 }
@@ -286,7 +286,7 @@ pub extern "C" fn lensember_replay(
     slots: &mut [u64],
     log: &[u8],
 ) -> replay::Replayed
-    ensures { leaves result (after bits words slots) ≡ replay_of c (before bits words slots) log.now }
+    ensures { leaves result (after bits.new words.new slots.new) ≡ replay_of c (before bits.old words.old slots.old) log.now }
 {
     replay::replay(c, bits, words, slots, log)
 }
@@ -301,8 +301,8 @@ pub extern "C" fn lensember_lines(
     log: &[u8],
     out: &mut [u8],
 ) -> lines::Printed
-    ensures { leaves result (after bits words slots, out.new)
-        ≡ printed_of c (before bits words slots) log.now out.old }
+    ensures { leaves result (after bits.new words.new slots.new, out.new)
+        ≡ printed_of c (before bits.old words.old slots.old) log.now out.old }
 {
     lines::lines(c, bits, words, slots, log, out)
 }

@@ -16,10 +16,10 @@ use refusals::{NO_BLOCK, NO_ROOM, TOO_BIG};
 
 // Reserves n bytes, more than a slot holds, in free pages; no room where no gap holds them.
 fn reserve_run(c: u64, bits: &mut [u64], words: &mut [u32], slots: &[u64], n: u64) -> u64
-    requires sound { admit_of c (lent bits words slots) ≡ 0 }
+    requires sound { admit_of c (lent bits.old words.old slots.now) ≡ 0 }
     requires large { 3072 < n }
-    ensures given { leaves result (after bits words slots) ≡ carried (before bits words slots) (plan c (before bits words slots) n) }
-    ensures same { SameRuns (before bits words slots) (after bits words slots) }
+    ensures given { leaves result (after bits.new words.new slots.now) ≡ carried (before bits.old words.old slots.now) (plan c (before bits.old words.old slots.now) n) }
+    ensures same { SameRuns (before bits.old words.old slots.now) (after bits.new words.new slots.now) }
 {
     if 2093056 < n {
         return TOO_BIG;
@@ -46,11 +46,11 @@ fn reserve_class(
     opens: &mut [u8],
     b: usize,
 ) -> u64
-    requires sound { admit_of c (lent bits words slots) ≡ 0 }
-    requires marks { Marks (512 * c) (lent bits words slots) rows.old opens.old }
+    requires sound { admit_of c (lent bits.old words.old slots.old) ≡ 0 }
+    requires marks { Marks (512 * c) (lent bits.old words.old slots.old) rows.old opens.old }
     requires class { b < 30 }
-    ensures given { leaves result (after bits words slots) ≡ carried (before bits words slots) (plan_class c bits.old b) }
-    ensures marks { Marks (512 * c) (after bits words slots) rows.new opens.new }
+    ensures given { leaves result (after bits.new words.new slots.new) ≡ carried (before bits.old words.old slots.old) (plan_class c bits.old b) }
+    ensures marks { Marks (512 * c) (after bits.new words.new slots.new) rows.new opens.new }
 {
     let row = classes::class_row(b);
     match gaps::find_pages(c as usize, bits, widths::wide16(row.pages)) {
@@ -75,10 +75,10 @@ fn reserve_now(
     opens: &mut [u8],
     n: u64,
 ) -> u64
-    requires sound { admit_of c (lent bits words slots) ≡ 0 }
-    requires marks { Marks (512 * c) (lent bits words slots) rows.old opens.old }
-    ensures given { leaves result (after bits words slots) ≡ carried (before bits words slots) (plan c (before bits words slots) n) }
-    ensures marks { Marks (512 * c) (after bits words slots) rows.new opens.new }
+    requires sound { admit_of c (lent bits.old words.old slots.old) ≡ 0 }
+    requires marks { Marks (512 * c) (lent bits.old words.old slots.old) rows.old opens.old }
+    ensures given { leaves result (after bits.new words.new slots.new) ≡ carried (before bits.old words.old slots.old) (plan c (before bits.old words.old slots.old) n) }
+    ensures marks { Marks (512 * c) (after bits.new words.new slots.new) rows.new opens.new }
 {
     if 3072 < n {
         return reserve_run(c, bits, words, slots, n);
@@ -122,11 +122,11 @@ fn reserve_swept(
     opens: &mut [u8],
     n: u64,
 ) -> u64
-    requires sound { admit_of c (lent bits words slots) ≡ 0 }
-    requires marks { Marks (512 * c) (lent bits words slots) rows.old opens.old }
-    requires full { plan c (lent bits words slots) n ≡ Refuse no_room }
-    ensures given { leaves result (after bits words slots) ≡ coded c (before bits words slots) n }
-    ensures marks { Marks (512 * c) (after bits words slots) rows.new opens.new }
+    requires sound { admit_of c (lent bits.old words.old slots.old) ≡ 0 }
+    requires marks { Marks (512 * c) (lent bits.old words.old slots.old) rows.old opens.old }
+    requires full { plan c (lent bits.old words.old slots.old) n ≡ Refuse no_room }
+    ensures given { leaves result (after bits.new words.new slots.new) ≡ coded c (before bits.old words.old slots.old) n }
+    ensures marks { Marks (512 * c) (after bits.new words.new slots.new) rows.new opens.new }
 {
     let x = reserve::make_room(c, bits, words, slots, n, reserve::Plan::Refuse(NO_ROOM));
     if reserve::is_full(x) {
@@ -147,10 +147,10 @@ pub fn reserve_marked(
     opens: &mut [u8],
     n: u64,
 ) -> u64
-    requires sound { admit_of c (lent bits words slots) ≡ 0 }
-    requires marks { Marks (512 * c) (lent bits words slots) rows.old opens.old }
-    ensures given { leaves result (after bits words slots) ≡ coded c (before bits words slots) n }
-    ensures marks { Marks (512 * c) (after bits words slots) rows.new opens.new }
+    requires sound { admit_of c (lent bits.old words.old slots.old) ≡ 0 }
+    requires marks { Marks (512 * c) (lent bits.old words.old slots.old) rows.old opens.old }
+    ensures given { leaves result (after bits.new words.new slots.new) ≡ coded c (before bits.old words.old slots.old) n }
+    ensures marks { Marks (512 * c) (after bits.new words.new slots.new) rows.new opens.new }
 {
     let r = reserve_now(c, bits, words, slots, rows, opens, n);
     if r != NO_ROOM {
@@ -169,10 +169,10 @@ pub fn release_marked(
     opens: &mut [u8],
     q: u64,
 ) -> u64
-    requires sound { admit_of c (lent bits words slots) ≡ 0 }
-    requires marks { Marks (512 * c) (lent bits words slots) rows.old opens.old }
-    ensures given { leaves result (after bits words slots) ≡ give c (before bits words slots) q }
-    ensures marks { Marks (512 * c) (after bits words slots) rows.new opens.new }
+    requires sound { admit_of c (lent bits.old words.old slots.old) ≡ 0 }
+    requires marks { Marks (512 * c) (lent bits.old words.old slots.old) rows.old opens.old }
+    ensures given { leaves result (after bits.new words.new slots.new) ≡ give c (before bits.old words.old slots.old) q }
+    ensures marks { Marks (512 * c) (after bits.new words.new slots.new) rows.new opens.new }
 {
     if 512 * c <= q / 4096 {
         return NO_BLOCK;

@@ -53,8 +53,8 @@ fn slot_from(b: usize, off: usize) -> usize
 
 // The page and slot at which the search for the place q starts. Any page but those of class runs begins at most one block, at its first byte.
 fn start_of(c: u64, bits: &[u64], words: &[u32], slots: &[u64], q: usize) -> Start
-    requires { (admit_of c (lent bits words slots) ≡ 0) × (q / 4096 < 512 * c) }
-    ensures { Started c (before bits words slots) q result.page result.slot }
+    requires { (admit_of c (lent bits.now words.now slots.now) ≡ 0) × (q / 4096 < 512 * c) }
+    ensures { Started c (before bits.now words.now slots.now) q result.page result.slot }
 {
     let g = q / 4096;
     let home = records::home_at(c, bits, words, slots, g);
@@ -85,8 +85,8 @@ fn start_of(c: u64, bits: &[u64], words: &[u32], slots: &[u64], q: usize) -> Sta
 
 // What starts at page g.
 fn begun_at(c: u64, bits: &[u64], words: &[u32], slots: &[u64], g: usize) -> Begun
-    requires { (admit_of c (lent bits words slots) ≡ 0) × (g < 512 * c) }
-    ensures { result ≡ begun_at (kind_at (before bits words slots) g) }
+    requires { (admit_of c (lent bits.now words.now slots.now) ≡ 0) × (g < 512 * c) }
+    ensures { result ≡ begun_at (kind_at (before bits.now words.now slots.now) g) }
 {
     match records::kind_at(c, bits, words, slots, g) {
         records::Kind::Large(k) => {
@@ -119,8 +119,8 @@ fn begun_at(c: u64, bits: &[u64], words: &[u32], slots: &[u64], g: usize) -> Beg
 // The search, on records that are sound: chunks, pages and slots from the place on, left at the first live block. Free pages and free
 // slots are passed a word at a time.
 pub fn next_sound(c: u64, bits: &[u64], words: &[u32], slots: &[u64], q: u64) -> First
-    requires { admit_of c (lent bits words slots) ≡ 0 }
-    ensures { result ≡ first_from q (live c (before bits words slots)) }
+    requires { admit_of c (lent bits.now words.now slots.now) ≡ 0 }
+    ensures { result ≡ first_from q (live c (before bits.now words.now slots.now)) }
 {
     if 512 * c <= q / 4096 {
         return First::Nothing;

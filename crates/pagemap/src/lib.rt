@@ -151,9 +151,9 @@ fn put_pages(
     out: &mut [u8],
     at: usize,
 ) -> usize
-    requires { (admit_of c (lent bits words slots) ≡ 0) × (at + page_room svg * (512 * c) ≤ length out.old) }
+    requires { (admit_of c (lent bits.now words.now slots.now) ≡ 0) × (at + page_room svg * (512 * c) ≤ length out.old) }
     ensures text { Appends out.old out.new at result
-        (pages_from svg (before bits words slots) no_cell 0 (512 * c)) }
+        (pages_from svg (before bits.now words.now slots.now) no_cell 0 (512 * c)) }
     ensures room { result ≤ at + page_room svg * (512 * c) }
 {
     let n = 512 * (c as usize);
@@ -183,9 +183,9 @@ fn draw_sound(
     slots: &[u64],
     out: &mut [u8],
 ) -> Drawn
-    requires { (admit_of c (lent bits words slots) ≡ 0) × (room_for svg c ≤ length out.old) }
+    requires { (admit_of c (lent bits.now words.now slots.now) ≡ 0) × (room_for svg c ≤ length out.old) }
     ensures drawn { leaves result out.new
-        ≡ showing svg c (before bits words slots) out.old }
+        ≡ showing svg c (before bits.now words.now slots.now) out.old }
     ensures within { result.length ≤ length out.new }
 {
     let i = put_head(svg, out, c);
@@ -213,7 +213,7 @@ fn room_for(svg: bool, c: u64) -> usize
 // The drawing, behind the check of the records.
 fn draw(svg: bool, c: u64, bits: &[u64], words: &[u32], slots: &[u64], out: &mut [u8]) -> Drawn
     ensures drawn { leaves result out.new
-        ≡ drawn_of svg c (before bits words slots) out.old }
+        ≡ drawn_of svg c (before bits.now words.now slots.now) out.old }
     ensures within { result.length ≤ length out.new }
 {
     let a = admit::admit(c, bits, words, slots);
@@ -236,7 +236,7 @@ fn draw(svg: bool, c: u64, bits: &[u64], words: &[u32], slots: &[u64], out: &mut
 // chunks: 14,848 bytes for each chunk, and 256.
 pub fn draw_text(c: u64, bits: &[u64], words: &[u32], slots: &[u64], out: &mut [u8]) -> Drawn
     ensures drawn { leaves result out.new
-        ≡ drawn_of false c (before bits words slots) out.old }
+        ≡ drawn_of false c (before bits.now words.now slots.now) out.old }
     ensures within { (result.length ≤ length out.new) × (result.length ≡ length (take result.length out.new)) }
 {
     draw(false, c, bits, words, slots, out)
@@ -245,7 +245,7 @@ pub fn draw_text(c: u64, bits: &[u64], words: &[u32], slots: &[u64], out: &mut [
 // The same as an SVG picture; the room is 215,040 bytes for each chunk, and 2,048.
 pub fn draw_svg(c: u64, bits: &[u64], words: &[u32], slots: &[u64], out: &mut [u8]) -> Drawn
     ensures drawn { leaves result out.new
-        ≡ drawn_of true c (before bits words slots) out.old }
+        ≡ drawn_of true c (before bits.now words.now slots.now) out.old }
     ensures within { (result.length ≤ length out.new) × (result.length ≡ length (take result.length out.new)) }
 {
     draw(true, c, bits, words, slots, out)

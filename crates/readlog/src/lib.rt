@@ -16,7 +16,7 @@ fn replay_fresh(
     slots: &mut [u64],
     log: &[u8],
 ) -> replay::Replayed
-    ensures { leaves result (after bits words slots) ≡ replay_of 1 (fresh_of 1 (before bits words slots)).left log.now }
+    ensures { leaves result (after bits.new words.new slots.new) ≡ replay_of 1 (fresh_of 1 (before bits.old words.old slots.old)).left log.now }
 {
     fresh::fresh(1, bits, words, slots);
     replay::replay(1, bits, words, slots, log)
@@ -36,7 +36,7 @@ fn tell(r: replay::Replayed) {
 
 // The pool after it: what the fields before a refused one did stands.
 pub fn replay_input(bits: &mut [u64], words: &mut [u32], slots: &mut [u64])
-    ensures { FromLog (before bits words slots) (after bits words slots) }
+    ensures { FromLog (before bits.old words.old slots.old) (after bits.new words.new slots.new) }
 {
     let mut log = [0u8; 16384];
     let n = io::read_full(STDIN_FILENO, &mut log);

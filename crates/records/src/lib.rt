@@ -74,8 +74,8 @@ pub fn inner_word(b: usize, k: usize) -> u32
 // What page g is, on records that are sound: there a word means one thing only, and the page bit tells a free page from one inside a large
 // run. The words at which nothing begins come first: where a caller takes them alike, that is one comparison.
 pub fn kind_at(c: u64, bits: &[u64], words: &[u32], slots: &[u64], g: usize) -> Kind
-    requires { (admit_of c (lent bits words slots) ≡ 0) × (g < 512 * c) }
-    ensures { result ≡ kind_at (before bits words slots) g }
+    requires { (admit_of c (lent bits.now words.now slots.now) ≡ 0) × (g < 512 * c) }
+    ensures { result ≡ kind_at (before bits.now words.now slots.now) g }
 {
     let w = words[g];
     if 0xC0000000 <= w {
@@ -98,18 +98,18 @@ pub fn kind_at(c: u64, bits: &[u64], words: &[u32], slots: &[u64], g: usize) -> 
 
 // Whether a run of class b starts at page g, on records that are sound: one comparison, for searches that go over all pages.
 pub fn is_run_of(c: u64, bits: &[u64], words: &[u32], slots: &[u64], g: usize, b: usize) -> bool
-    requires sound { admit_of c (lent bits words slots) ≡ 0 }
+    requires sound { admit_of c (lent bits.now words.now slots.now) ≡ 0 }
     requires inside { g < 512 * c }
     requires class { b < 30 }
-    ensures { result ≡ is_run_of b (kind_at (before bits words slots) g) }
+    ensures { result ≡ is_run_of b (kind_at (before bits.now words.now slots.now) g) }
 {
     words[g] == class_word(b)
 }
 
 // Whether page g lies in a class run, on records that are sound.
 pub fn in_class(c: u64, bits: &[u64], words: &[u32], slots: &[u64], g: usize) -> bool
-    requires { (admit_of c (lent bits words slots) ≡ 0) × (g < 512 * c) }
-    ensures { result ≡ in_class (kind_at (before bits words slots) g) }
+    requires { (admit_of c (lent bits.now words.now slots.now) ≡ 0) × (g < 512 * c) }
+    ensures { result ≡ in_class (kind_at (before bits.now words.now slots.now) g) }
 {
     0x80000000 <= words[g]
 }
@@ -117,10 +117,10 @@ pub fn in_class(c: u64, bits: &[u64], words: &[u32], slots: &[u64], g: usize) ->
 // The class run in which page g lies, on records that are sound: a page's word has the way to the run's first page, which is 0 there, and the
 // class.
 pub fn class_run(c: u64, bits: &[u64], words: &[u32], slots: &[u64], g: usize) -> ClassRun
-    requires sound { admit_of c (lent bits words slots) ≡ 0 }
+    requires sound { admit_of c (lent bits.now words.now slots.now) ≡ 0 }
     requires inside { g < 512 * c }
-    requires class { in_class (kind_at (lent bits words slots) g) ≡ true }
-    ensures { Lies (before bits words slots) g result.first (Class result.class) }
+    requires class { in_class (kind_at (lent bits.now words.now slots.now) g) ≡ true }
+    ensures { Lies (before bits.now words.now slots.now) g result.first (Class result.class) }
 {
     let w = words[g];
     let k = ((w / 65536) % 16384) as usize;
@@ -132,8 +132,8 @@ pub fn class_run(c: u64, bits: &[u64], words: &[u32], slots: &[u64], g: usize) -
 
 // What page g lies in, on records that are sound. A page of a class run is told by the run's first page; any other page by itself.
 pub fn home_at(c: u64, bits: &[u64], words: &[u32], slots: &[u64], g: usize) -> Home
-    requires { (admit_of c (lent bits words slots) ≡ 0) × (g < 512 * c) }
-    ensures { Lies (before bits words slots) g result.first result.kind }
+    requires { (admit_of c (lent bits.now words.now slots.now) ≡ 0) × (g < 512 * c) }
+    ensures { Lies (before bits.now words.now slots.now) g result.first result.kind }
 {
     if in_class(c, bits, words, slots, g) {
         let r = class_run(c, bits, words, slots, g);
@@ -151,8 +151,8 @@ pub fn home_at(c: u64, bits: &[u64], words: &[u32], slots: &[u64], g: usize) -> 
 // Which part of a class run page g is, on records that are sound: 2 its first page, 3 one behind it, less where it is none. For passes over
 // all pages that go by this alone, without a branch.
 pub fn class_part(c: u64, bits: &[u64], words: &[u32], slots: &[u64], g: usize) -> u32
-    requires { (admit_of c (lent bits words slots) ≡ 0) × (g < 512 * c) }
-    ensures { ClassPart result (kind_at (before bits words slots) g) }
+    requires { (admit_of c (lent bits.now words.now slots.now) ≡ 0) × (g < 512 * c) }
+    ensures { ClassPart result (kind_at (before bits.now words.now slots.now) g) }
 {
     words[g] / 0x40000000
 }

@@ -61,8 +61,8 @@ fn slot_spot(slots: &[u64], g: usize, b: usize, off: usize, bytes: usize, count:
 
 // What the place q lies in.
 fn area_at(c: u64, bits: &[u64], words: &[u32], slots: &[u64], q: u64) -> Area
-    requires { admit_of c (lent bits words slots) ≡ 0 }
-    ensures { Leads c (before bits words slots) q result }
+    requires { admit_of c (lent bits.now words.now slots.now) ≡ 0 }
+    ensures { Leads c (before bits.now words.now slots.now) q result }
 {
     if 512 * c <= q / 4096 {
         return Area::Bare;
@@ -89,8 +89,8 @@ fn area_at(c: u64, bits: &[u64], words: &[u32], slots: &[u64], q: u64) -> Area
 
 // What starts at the place q.
 pub fn spot_at(c: u64, bits: &[u64], words: &[u32], slots: &[u64], q: u64) -> Spot
-    requires { admit_of c (lent bits words slots) ≡ 0 }
-    ensures { result ≡ spot c (before bits words slots) q }
+    requires { admit_of c (lent bits.now words.now slots.now) ≡ 0 }
+    ensures { result ≡ spot c (before bits.now words.now slots.now) q }
 {
     match area_at(c, bits, words, slots, q) {
         Area::Bare => {
@@ -110,8 +110,8 @@ pub fn spot_at(c: u64, bits: &[u64], words: &[u32], slots: &[u64], q: u64) -> Sp
 
 // Gives back what starts at a place, and answers 0 or the refusal.
 fn give_back(c: u64, bits: &mut [u64], words: &mut [u32], slots: &mut [u64], x: Spot) -> u64
-    requires { (admit_of c (lent bits words slots) ≡ 0) × (IsSpot c (lent bits words slots) x) }
-    ensures { leaves result (after bits words slots) ≡ leaves (released x) (give_back (before bits words slots) x) }
+    requires { (admit_of c (lent bits.old words.old slots.old) ≡ 0) × (IsSpot c (lent bits.old words.old slots.old) x) }
+    ensures { leaves result (after bits.new words.new slots.new) ≡ leaves (released x) (give_back (before bits.old words.old slots.old) x) }
 {
     match x {
         Spot::Nowhere(r) => {
@@ -130,8 +130,8 @@ fn give_back(c: u64, bits: &mut [u64], words: &mut [u32], slots: &mut [u64], x: 
 
 // The work of a release, on records that are sound.
 pub fn release_sound(c: u64, bits: &mut [u64], words: &mut [u32], slots: &mut [u64], q: u64) -> u64
-    requires { admit_of c (lent bits words slots) ≡ 0 }
-    ensures { leaves result (after bits words slots) ≡ give c (before bits words slots) q }
+    requires { admit_of c (lent bits.old words.old slots.old) ≡ 0 }
+    ensures { leaves result (after bits.new words.new slots.new) ≡ give c (before bits.old words.old slots.old) q }
 {
     let x = spot_at(c, bits, words, slots, q);
     give_back(c, bits, words, slots, x)
@@ -139,8 +139,8 @@ pub fn release_sound(c: u64, bits: &mut [u64], words: &mut [u32], slots: &mut [u
 
 // The size that was given to the block at the place q, on records that are sound.
 pub fn size_sound(c: u64, bits: &[u64], words: &[u32], slots: &[u64], q: u64) -> Sized
-    requires { admit_of c (lent bits words slots) ≡ 0 }
-    ensures { result ≡ size_at (spot c (before bits words slots) q) }
+    requires { admit_of c (lent bits.now words.now slots.now) ≡ 0 }
+    ensures { result ≡ size_at (spot c (before bits.now words.now slots.now) q) }
 {
     match spot_at(c, bits, words, slots, q) {
         Spot::Nowhere(r) => {

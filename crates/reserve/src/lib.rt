@@ -67,11 +67,11 @@ fn has_slot(
     b: usize,
     n: usize,
 ) -> bool
-    requires sound { admit_of c (lent bits words slots) ≡ 0 }
+    requires sound { admit_of c (lent bits.now words.now slots.now) ≡ 0 }
     requires inside { g < 512 * c }
     requires class { b < 30 }
     requires count { n ≡ slots_of (Class b) }
-    ensures { result ≡ has_slot (before bits words slots) b g }
+    ensures { result ≡ has_slot (before bits.now words.now slots.now) b g }
 {
     if !records::is_run_of(c, bits, words, slots, g, b) {
         return false;
@@ -81,10 +81,10 @@ fn has_slot(
 
 // The first page at which a run of class b with a free slot starts; behind the last page where there is none.
 fn slot_page(c: u64, bits: &[u64], words: &[u32], slots: &[u64], b: usize, n: usize) -> usize
-    requires sound { admit_of c (lent bits words slots) ≡ 0 }
+    requires sound { admit_of c (lent bits.now words.now slots.now) ≡ 0 }
     requires class { b < 30 }
     requires count { n ≡ slots_of (Class b) }
-    ensures { result ≡ slot_page (before bits words slots) b 0 (512 * c) }
+    ensures { result ≡ slot_page (before bits.now words.now slots.now) b 0 (512 * c) }
 {
     let end = 512 * (c as usize);
     let mut g = 0;
@@ -126,11 +126,11 @@ fn plan_slot(
     n: usize,
     g: usize,
 ) -> Plan
-    requires sound { admit_of c (lent bits words slots) ≡ 0 }
+    requires sound { admit_of c (lent bits.now words.now slots.now) ≡ 0 }
     requires class { b < 30 }
     requires count { n ≡ slots_of (Class b) }
-    requires first { g ≡ slot_page (lent bits words slots) b 0 (512 * c) }
-    ensures { result ≡ plan_slot c (before bits words slots) b }
+    requires first { g ≡ slot_page (lent bits.now words.now slots.now) b 0 (512 * c) }
+    ensures { result ≡ plan_slot c (before bits.now words.now slots.now) b }
 {
     if g < 512 * (c as usize) {
         let s = lowest_free(slots, g, b, n);
@@ -180,8 +180,8 @@ fn plan_large(c: u64, bits: &[u64], n: u64) -> Plan
 
 // What a reserve of n bytes will do, on records that are sound.
 fn plan_for(c: u64, bits: &[u64], words: &[u32], slots: &[u64], n: u64) -> Plan
-    requires { admit_of c (lent bits words slots) ≡ 0 }
-    ensures { result ≡ plan c (before bits words slots) n }
+    requires { admit_of c (lent bits.now words.now slots.now) ≡ 0 }
+    ensures { result ≡ plan c (before bits.now words.now slots.now) n }
 {
     if n <= 3072 {
         let b = classes::class_of(n as usize);
@@ -229,10 +229,10 @@ pub fn make_room(
     n: u64,
     x: Plan,
 ) -> Plan
-    requires sound { admit_of c (lent bits words slots) ≡ 0 }
-    requires plan { x ≡ plan c (lent bits words slots) n }
-    ensures left { after bits words slots ≡ ready c (before bits words slots) n }
-    ensures plan { result ≡ plan c (ready c (before bits words slots) n) n }
+    requires sound { admit_of c (lent bits.old words.old slots.now) ≡ 0 }
+    requires plan { x ≡ plan c (lent bits.old words.old slots.now) n }
+    ensures left { after bits.new words.new slots.now ≡ ready c (before bits.old words.old slots.now) n }
+    ensures plan { result ≡ plan c (ready c (before bits.old words.old slots.now) n) n }
 {
     if !is_full(x) {
         return x;
@@ -249,8 +249,8 @@ pub fn make_room(
 
 // The stores of a plan.
 pub fn perform_plan(c: u64, bits: &mut [u64], words: &mut [u32], slots: &mut [u64], x: Plan)
-    requires { (admit_of c (lent bits words slots) ≡ 0) × (PlanOk c (lent bits words slots) x) }
-    ensures { after bits words slots ≡ perform (before bits words slots) x }
+    requires { (admit_of c (lent bits.old words.old slots.old) ≡ 0) × (PlanOk c (lent bits.old words.old slots.old) x) }
+    ensures { after bits.new words.new slots.new ≡ perform (before bits.old words.old slots.old) x }
 {
     match x {
         Plan::Refuse(r) => {
@@ -363,8 +363,8 @@ pub fn reserve_sound(
     slots: &mut [u64],
     n: u64,
 ) -> Reserved
-    requires { admit_of c (lent bits words slots) ≡ 0 }
-    ensures { leaves result (after bits words slots) ≡ serve c (before bits words slots) n }
+    requires { admit_of c (lent bits.old words.old slots.old) ≡ 0 }
+    ensures { leaves result (after bits.new words.new slots.new) ≡ serve c (before bits.old words.old slots.old) n }
 {
     let x = plan_for(c, bits, words, slots, n);
     let y = make_room(c, bits, words, slots, n, x);

@@ -177,10 +177,10 @@ fn recut_run(
     k: usize,
     j: usize,
 )
-    requires sound { admit_of c (lent bits words slots) ≡ 0 }
-    requires run { IsLarge c (lent bits words slots) g k }
-    requires pages { PagesFree c (put_run 0 (lent bits words slots) g (zeros (suc k))) g (suc j) }
-    ensures { after bits words slots ≡ recut (before bits words slots) g k j }
+    requires sound { admit_of c (lent bits.old words.old slots.now) ≡ 0 }
+    requires run { IsLarge c (lent bits.old words.old slots.now) g k }
+    requires pages { PagesFree c (put_run 0 (lent bits.old words.old slots.now) g (zeros (suc k))) g (suc j) }
+    ensures { after bits.new words.new slots.now ≡ recut (before bits.old words.old slots.now) g k j }
 {
     blocks::free_large(bits, words, slots, g, k);
     blocks::put_large(bits, words, slots, g, j);
@@ -196,10 +196,10 @@ pub fn settle(
     n: u64,
     x: release::Spot,
 ) -> Settled
-    requires sound { admit_of c (lent bits words slots) ≡ 0 }
-    requires spot { x ≡ spot c (lent bits words slots) q }
-    ensures left { after bits words slots ≡ settled (before bits words slots) (change bits.old x n) }
-    ensures told { Tells c (before bits words slots) q n (change bits.old x n) result }
+    requires sound { admit_of c (lent bits.old words.old slots.now) ≡ 0 }
+    requires spot { x ≡ spot c (lent bits.old words.old slots.now) q }
+    ensures left { after bits.new words.new slots.now ≡ settled (before bits.old words.old slots.now) (change bits.old x n) }
+    ensures told { Tells c (before bits.old words.old slots.now) q n (change bits.old x n) result }
 {
     match change_of(bits, x, n) {
         Change::Refuse(r) => {
@@ -228,8 +228,8 @@ fn move_sound(
     n: u64,
     z: u64,
 ) -> Resized
-    requires { admit_of c (lent bits words slots) ≡ 0 }
-    ensures { leaves result (after bits words slots) ≡ moving c (before bits words slots) q z n }
+    requires { admit_of c (lent bits.old words.old slots.old) ≡ 0 }
+    ensures { leaves result (after bits.new words.new slots.new) ≡ moving c (before bits.old words.old slots.old) q z n }
 {
     let r = reserve::reserve_sound(c, bits, words, slots, n);
     if r.refusal != 0 {
@@ -248,8 +248,8 @@ pub fn resize_sound(
     q: u64,
     n: u64,
 ) -> Resized
-    requires { admit_of c (lent bits words slots) ≡ 0 }
-    ensures { leaves result (after bits words slots) ≡ resize c (before bits words slots) q n }
+    requires { admit_of c (lent bits.old words.old slots.old) ≡ 0 }
+    ensures { leaves result (after bits.new words.new slots.new) ≡ resize c (before bits.old words.old slots.old) q n }
 {
     let x = release::spot_at(c, bits, words, slots, q);
     match settle(c, bits, words, slots, q, n, x) {

@@ -28,7 +28,7 @@ pub struct Marks {
 // 1 where page g has no slot bit, else 0.
 fn idle_page(bits: &[u64], words: &[u32], slots: &[u64], g: usize) -> u64
     requires { (g < 8192) × (8 * g + 8 ≤ length slots.now) }
-    ensures { result ≡ digit (idle (before bits words slots) g) }
+    ensures { result ≡ digit (idle (before bits.now words.now slots.now) g) }
 {
     if records::any_slot(slots, g) == 0 {
         return 1;
@@ -39,10 +39,10 @@ fn idle_page(bits: &[u64], words: &[u32], slots: &[u64], g: usize) -> u64
 // 1 where page g lies in an empty run, else 0; `last` is that of the page before it. Only slot words of class runs are read; those of a page
 // behind the first are all 0, so that first page and others need no branch between them.
 fn empty_page(c: u64, bits: &[u64], words: &[u32], slots: &[u64], g: usize, last: u64) -> u64
-    requires sound { admit_of c (lent bits words slots) ≡ 0 }
+    requires sound { admit_of c (lent bits.now words.now slots.now) ≡ 0 }
     requires inside { g < 512 * c }
-    requires last { last ≡ digit (empty_to (lent bits words slots) g) }
-    ensures { result ≡ digit (empty_to (before bits words slots) (suc g)) }
+    requires last { last ≡ digit (empty_to (lent bits.now words.now slots.now) g) }
+    ensures { result ≡ digit (empty_to (before bits.now words.now slots.now) (suc g)) }
 {
     let part = records::class_part(c, bits, words, slots, g);
     if part < 2 {
@@ -55,10 +55,10 @@ fn empty_page(c: u64, bits: &[u64], words: &[u32], slots: &[u64], g: usize, last
 
 // The 64 pages of page-bit word k; `last` is that of the page before them.
 fn empty_64(c: u64, bits: &[u64], words: &[u32], slots: &[u64], k: usize, last: u64) -> Marks
-    requires sound { admit_of c (lent bits words slots) ≡ 0 }
+    requires sound { admit_of c (lent bits.now words.now slots.now) ≡ 0 }
     requires inside { k < 8 * c }
-    requires last { last ≡ digit (empty_to (lent bits words slots) (64 * k)) }
-    ensures { Marked (before bits words slots) k result.mask result.last }
+    requires last { last ≡ digit (empty_to (lent bits.now words.now slots.now) (64 * k)) }
+    ensures { Marked (before bits.now words.now slots.now) k result.mask result.last }
 {
     let mut m: u64 = 0;
     let mut e = last;
@@ -79,10 +79,10 @@ pub fn swept_bits(
     slots: &[u64],
     spare: &mut [u64; 128],
 ) -> usize
-    requires sound { admit_of c (lent bits words slots) ≡ 0 }
+    requires sound { admit_of c (lent bits.now words.now slots.now) ≡ 0 }
     requires long { length spare.old ≡ 128 }
-    ensures spare { Spare c (before bits words slots) spare.new }
-    ensures pages { result ≡ empty_from (before bits words slots) 0 (512 * c) }
+    ensures spare { Spare c (before bits.now words.now slots.now) spare.new }
+    ensures pages { result ≡ empty_from (before bits.now words.now slots.now) 0 (512 * c) }
 {
     let n = 8 * (c as usize);
     let mut pages = 0;
@@ -137,9 +137,9 @@ fn free_64(words: &mut [u32], k: usize, w: u64)
 
 // The empty runs are given back; `spare` has the page bits without them.
 pub fn give_back(c: u64, bits: &mut [u64], words: &mut [u32], slots: &[u64], spare: &[u64; 128])
-    requires sound { admit_of c (lent bits words slots) ≡ 0 }
-    requires spare { Spare c (lent bits words slots) spare.now }
-    ensures { after bits words slots ≡ swept c (before bits words slots) }
+    requires sound { admit_of c (lent bits.old words.old slots.now) ≡ 0 }
+    requires spare { Spare c (lent bits.old words.old slots.now) spare.now }
+    ensures { after bits.new words.new slots.now ≡ swept c (before bits.old words.old slots.now) }
 {
     let n = 8 * (c as usize);
     let mut k = 0;
@@ -155,8 +155,8 @@ pub fn give_back(c: u64, bits: &mut [u64], words: &mut [u32], slots: &[u64], spa
 
 // The work of a sweep, on records that are sound.
 pub fn sweep_sound(c: u64, bits: &mut [u64], words: &mut [u32], slots: &[u64]) -> Swept
-    requires { admit_of c (lent bits words slots) ≡ 0 }
-    ensures { leaves result (after bits words slots) ≡ leaves (gained 0 (empty_from (before bits words slots) 0 (512 * c))) (swept c (before bits words slots)) }
+    requires { admit_of c (lent bits.old words.old slots.now) ≡ 0 }
+    ensures { leaves result (after bits.new words.new slots.now) ≡ leaves (gained 0 (empty_from (before bits.old words.old slots.now) 0 (512 * c))) (swept c (before bits.old words.old slots.now)) }
 {
     let mut spare = [0; 128];
     let pages = swept_bits(c, bits, words, slots, &mut spare);

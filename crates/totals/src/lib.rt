@@ -75,8 +75,8 @@ fn page_amount(slots: &[u64], g: usize, k: records::Kind, row: classes::Row) -> 
 
 // All live blocks. The class rows are copied once: a constant is written out anew at each read by index.
 fn live_amount(c: u64, bits: &[u64], words: &[u32], slots: &[u64]) -> Amount
-    requires { admit_of c (lent bits words slots) ≡ 0 }
-    ensures { result ≡ amount_of (live c (before bits words slots)) }
+    requires { admit_of c (lent bits.now words.now slots.now) ≡ 0 }
+    ensures { result ≡ amount_of (live c (before bits.now words.now slots.now)) }
 {
     let table = classes::class_rows();
     let n = 512 * (c as usize);
@@ -99,8 +99,8 @@ fn live_amount(c: u64, bits: &[u64], words: &[u32], slots: &[u64]) -> Amount
 
 // The number of live blocks, on records that are sound.
 pub fn live_count(c: u64, bits: &[u64], words: &[u32], slots: &[u64]) -> usize
-    requires { admit_of c (lent bits words slots) ≡ 0 }
-    ensures { result ≡ length (live c (before bits words slots)) }
+    requires { admit_of c (lent bits.now words.now slots.now) ≡ 0 }
+    ensures { result ≡ length (live c (before bits.now words.now slots.now)) }
 {
     let t = live_amount(c, bits, words, slots);
     t.blocks
@@ -108,8 +108,8 @@ pub fn live_count(c: u64, bits: &[u64], words: &[u32], slots: &[u64]) -> usize
 
 // The totals of records that are sound. There the page bit is 0 just at free pages.
 pub fn totals_sound(c: u64, bits: &[u64], words: &[u32], slots: &[u64]) -> Sums
-    requires { admit_of c (lent bits words slots) ≡ 0 }
-    ensures { result ≡ summed c (before bits words slots) }
+    requires { admit_of c (lent bits.now words.now slots.now) ≡ 0 }
+    ensures { result ≡ summed c (before bits.now words.now slots.now) }
 {
     let t = live_amount(c, bits, words, slots);
     let n = 512 * (c as usize);

@@ -8,6 +8,7 @@ use borrow.Author.Rules.{rules}
 use borrow.Author.Tests.{eqb-true, not-false}
 use Rattle.gaps.proofs.Chunks.{chunk_full, Chunk, chunk_start, chunk_turn, start_le, chunk_done, chunk_settled}
 use Rattle.gaps.proofs.best_in_chunk.Goals as goal
+use Rattle.gaps.proofs.best_in_chunk.Goals.{then-loop-i-test+else-s-n, else-loop-i-test}
 
 pub returns-then-first_free-to : goal.returns-then-first_free-to
 returns-then-first_free-to c = chunk_full _ _ _ _ _ (omega arith) c.first_free.ensures c.if-first_free-to.true
@@ -30,7 +31,8 @@ overflow_sub-to c = start_le c.loop-i.invariant.1
 pub returns : goal.returns
 returns c =
     let l = c.loop-i in
-    let n = c.args.n in
     c.better_gap.ensures
-    ∙ ⊎_elim (λ e. chunk_settled l.invariant.1 _ (e.2.left))
-    (λ e. chunk_done l.invariant.1 e.left (omega arith)) c.loop-i-test.branch
+    ∙ elim c.loop-i-test.branch [
+      | then-loop-i-test+else-s-n e ↦ chunk_settled l.invariant.1 _ e.if-s-n.false
+      | else-loop-i-test e ↦ chunk_done l.invariant.1 e.loop-i-test.false (omega arith)
+    ]

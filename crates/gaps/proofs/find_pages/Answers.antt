@@ -6,6 +6,7 @@ use native.Mathlib.Omega.{arith}
 use borrow.Author.Tests.{leb-true, leb-false}
 use Rattle.gaps.proofs.Choice.{Sought, sought_start, sought_turn, sought_at, sought_none}
 use Rattle.gaps.proofs.find_pages.Goals as goal
+use Rattle.gaps.proofs.find_pages.Goals.{then-loop-k-test+else-best-ge512, else-loop-k-test}
 
 pub loop-k-init : goal.loop-k-init
 loop-k-init c = let start = c.args in (omega arith, sought_start start.bits.now start.n start.c)
@@ -27,4 +28,4 @@ pub returns-else-best-lt512 : goal.returns-else-best-lt512
 returns-else-best-lt512 c =
     let l = c.loop-k in let start = c.args in
     sought_none start.bits.now start.n start.c l.k l.best l.invariant.1
-    (⊎_elim (λ e. omega (arith, leb-false)) (λ e. e.left) c.loop-k-test.branch) c.if-best-lt512.false
+    (elim c.loop-k-test.branch [ then-loop-k-test+else-best-ge512 e ↦ absurd (omega arith) | else-loop-k-test e ↦ e.loop-k-test.false ]) c.if-best-lt512.false

@@ -8,7 +8,7 @@ use Rattle.hints.proofs.GiveLaws.{Held, Reckoned, reckoned, gave_between, number
 use borrow.Author.Rules.{rules}
 use Rattle.hints.proofs.give.Goals as goal
 
-held : (s : goal.Start) → Held s.args.c (lent s.args.bits s.args.words s.args.slots) s.args.rows.now s.args.opens.now s.args.g
+held : (s : goal.Start) → Held s.args.c (lent s.args.bits.now s.args.words.now s.args.slots.now) s.args.rows.now s.args.opens.now s.args.g
     s.args.b s.args.off
 held s = let (sound, (marks, (run, inside))) = (s.requires.sound, (s.requires.marks, (s.requires.run, s.requires.inside))) in record { sound = sound; marks = marks; run = run; inside = inside.0; within = inside.1 }
 

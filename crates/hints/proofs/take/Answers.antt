@@ -10,7 +10,7 @@ use Rattle.hints.proofs.take.Goals as goal
 -- the first word that has a mark is word j, as top word e says
 abbrev Found : goal.Start → ℕ → ℕ → Type 0
 Found s j e =
-    Leads s.args.c (lent s.args.bits s.args.words s.args.slots) s.args.rows.now s.args.opens.now s.args.b j
+    Leads s.args.c (lent s.args.bits.now s.args.words.now s.args.slots.now) s.args.rows.now s.args.opens.now s.args.b j
     (get_or s.args.rows.now e 0)
 
 low : (c : goal.After-first_one-j) → Found c c.first_one-j.result (144 * c.args.b + 128)

@@ -14,7 +14,7 @@ use Rattle.hints.proofs.TakeLaws.{Reached, reached, Aimed, aimed, took}
 use Rattle.hints.proofs.take_at.Goals as goal
 
 abbrev Asked : goal.Start → Type 0
-Asked s = Front (lent s.args.bits s.args.words s.args.slots) s.args.row.now s.args.opens.now s.args.j s.args.top
+Asked s = Front (lent s.args.bits.now s.args.words.now s.args.slots.now) s.args.row.now s.args.opens.now s.args.j s.args.top
 
 abbrev start : goal.After-first_one → goal.Start
 start c = c
