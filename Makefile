@@ -60,7 +60,7 @@ all: build/proved $(LIB) $(PROGRAM) build/map build/paint build/import build/exp
 
 # What the prover says goes to a file, and to the terminal where it fails. rt runs
 # once at a time: whoever comes next waits.
-prove = @mkdir -p build; echo '$(1): see build/$(notdir $@).log' >&2; \
+prove = @mkdir -p build; echo '$@ by rt: see build/$(notdir $@).log' >&2; \
 	flock build/turn sh -c '$(1)' >build/$(notdir $@).log 2>&1 || \
 	{ cat build/$(notdir $@).log; exit 1; }
 
@@ -84,7 +84,7 @@ build/export: CRATE = exporter
 # rt builds a program to run it: it is given its crate's sample, and has to print
 # what belongs to that.
 build/replay build/map build/paint build/import build/export: $(PROVED)
-	$(call prove,cd crates/$(CRATE) && rt run <stdin >out/printed && cmp out/printed stdout)
+	$(call prove,cd crates/$(CRATE) && rt run <stdin >../../$@.printed && cmp ../../$@.printed stdout)
 	cp crates/$(CRATE)/out/$(CRATE) $@
 
 build/%.o: %.c $(HEADERS) Makefile
