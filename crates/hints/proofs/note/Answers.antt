@@ -16,7 +16,7 @@ loop-k-init c = let sound = c.requires.sound in let cuts = c.requires.cuts in le
 pub loop-k-preserved : goal.loop-k-preserved
 loop-k-preserved c =
     let h = c.loop-k.invariant in
-    let sound = c.requires.sound in let cuts = c.requires.cuts in let run = c.requires.run in let inside = c.requires.inside in let fits = c.type_inv.slots in (
+    let sound = c.requires.sound in let cuts = c.requires.cuts in let run = c.requires.run in let inside = c.requires.inside in let fits = c.shared_slice_known-3-1.given in (
       omega arith,
       h.1,
       h.2,

@@ -63,5 +63,5 @@ bounds-row-j-3 c =
 pub returns : goal.returns
 returns c = λ f.
     let j = (start c).args.j in
-    took f c.first_one.result (word c f) _ _ _ _ _ _ (c.type_inv.slots (8 * (64 * j + c.first_one.result) + c.first_one-k.result)).fits
+    took f c.first_one.result (word c f) _ _ _ _ _ _ (c.slice_known-7-1.given (8 * (64 * j + c.first_one.result) + c.first_one-k.result)).fits
     c.first_zero.ensures c.fill_word-v.ensures c.without_lowest-p.ensures c.without_lowest-l.ensures c.without_lowest.ensures
