@@ -46,8 +46,8 @@ fn ask<'a>(
     left: &'a [u8],
     right: &'a [u8],
 ) {
-    let r = bytes::bytes_refusal(ear, c, bits, words, slots, q, left, right);
-    let part = bytes::bytes(ear, c, bits, words, slots, q, left, right);
+    let r = blockbytes::bytes_refusal(ear, c, bits, words, slots, q, left, right);
+    let part = blockbytes::bytes(ear, c, bits, words, slots, q, left, right);
     tell(b"ear ", ear);
     tell(b" chunks ", c);
     tell(b" arenas ", widths::wide64(left.len()));
