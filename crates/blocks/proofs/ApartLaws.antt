@@ -43,7 +43,8 @@ rising_end (next {b} h z r) = let e = rising_end r in omega arith
 -- one of a list that rises is not empty, and ends at or before the upper bound
 rising_one : {b : Block} {l l' : List Block} {lo hi : ℕ} → Rising lo l' hi → Ins b l l' → (0 < b.size) × (b.place + b.size ≤ hi)
 rising_one (next h z r) here = (z, rising_end r)
-rising_one (next h z r) (there i) = rising_one r i
+rising_one (next h z r) (there {l = l} i) = rising_one {l = l} r i
+rising_one {b = b} {l = l} (stop {lo = lo} {hi = hi} _) x6 = elim x6 [ ]
 
 -- ---- the blocks of a page
 
@@ -108,9 +109,9 @@ flat_from : {b : Block} (f : ℕ → List Block) (i n : ℕ) → Memᴰ b (flat 
     → (j : ℕ) × (i ≤ j) × (j < i + n) × Memᴰ b (f j)
 unfolding flat
 flat_from f i zero m = absurd (Memᴰ.not-nil m)
-flat_from f i (suc n) m =
+flat_from {b} f i (suc n) m =
     ⊎_elim (λ x. (i, omega arith, omega arith, x))
-    (λ x. let (j, a, l, y) = flat_from f (suc i) n x in (j, omega arith, omega arith, y)) (Memᴰ.append_cases (f i) m)
+    (λ (x : Memᴰ b (flat f (suc i) n)). let (j, a, l, y) = flat_from f (suc i) n x in (j, omega arith, omega arith, y)) (Memᴰ.append_cases (f i) m)
 
 flat_to : {b : Block} (f : ℕ → List Block) (i n j : ℕ) → i ≤ j → j < i + n → Memᴰ b (f j) → Memᴰ b (flat f i n)
 unfolding flat

@@ -29,7 +29,7 @@ pub ins_apart : {a b : Block} {k l l' : List Block} {lo hi : ℕ} → Ins a k l 
     → ((0 < a.size) × (a.place + a.size ≤ b.place)) ⊎ ((0 < b.size) × (b.place + b.size ≤ a.place))
 ins_apart i here (next h z r) = inr (z, ins_low i r)
 ins_apart here (there j) (next h z r) = inl (z, ins_low j r)
-ins_apart (there i) (there j) (next h z r) = ins_apart i j r
+ins_apart (there {l = l} i) (there j) (next h z r) = ins_apart {k = l} i j r
 
 -- ---- one in place of another
 

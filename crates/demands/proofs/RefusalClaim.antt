@@ -40,9 +40,9 @@ use Rattle.census.specs.Census.{counted, list, census_of}
 use Rattle.census.proofs.MeanLaws.{list_kept}
 use Rattle.totals.specs.declared.Sums.{Sums}
 use Rattle.totals.specs.Totals.{totalled, summed, totals_of}
-use Rattle.bytes.specs.declared.Part.{Part}
-use Rattle.bytes.specs.Bytes.{chosen, bytes_of, bytes_refusal_of}
-use Rattle.bytes.proofs.PartLaws.{part_checked, part_kept}
+use Rattle.blockbytes.specs.declared.Part.{Part}
+use Rattle.blockbytes.specs.Bytes.{chosen, bytes_of, bytes_refusal_of}
+use Rattle.blockbytes.proofs.PartLaws.{part_checked, part_kept}
 use Rattle.replay.specs.Run.{Run, ended, run_all, run_of, replayed, replay_of}
 use Rattle.replay.proofs.MeanLaws.{numbers, unstarted, started, accepted, stopped}
 use Rattle.replay.proofs.PrefixLaws.{replay_prefix}

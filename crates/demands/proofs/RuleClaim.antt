@@ -26,7 +26,7 @@ use Rattle.census.proofs.MeanLaws.{census_lists, census_short}
 use Rattle.totals.specs.declared.Sums.{Sums}
 use Rattle.totals.specs.Totals.{given, run_pages, totalled, summed, totals_of}
 use Rattle.totals.proofs.PageLaws.{free_read, pages_add, totals_by}
-use Rattle.bytes.proofs.PartLaws.{bytes_cut, bytes_none}
+use Rattle.blockbytes.proofs.PartLaws.{bytes_cut, bytes_none}
 use Rattle.demands.specs.Demand2.{Reserves, Releases, Resizes, Nexts, Follows, Demand2}
 use Rattle.demands.proofs.ReserveRules.{by_rule, rule, size_holds, page_stays}
 use Rattle.demands.proofs.ResizeRules.{by_change, change_rule, swaps_there, resized_holds, grows_by, recut_by, copied}

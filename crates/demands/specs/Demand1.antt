@@ -18,7 +18,7 @@ use Rattle.resize.specs.Resize as resizing
 use Rattle.next.specs.Next.{answered, next_of}
 use Rattle.census.specs.Census.{counted, census_of}
 use Rattle.totals.specs.Totals.{totalled, totals_of}
-use Rattle.bytes.specs.Bytes.{chosen, ear_fits, bytes_of, bytes_refusal_of}
+use Rattle.blockbytes.specs.Bytes.{chosen, ear_fits, bytes_of, bytes_refusal_of}
 use Rattle.requestlog.specs.declared.Field.TheVariants.{Start}
 use Rattle.requestlog.specs.declared.Cursor.{Cursor}
 use Rattle.requestlog.specs.declared.Read.TheVariants.{Next}

@@ -30,7 +30,7 @@ use Rattle.next.specs.declared.Next as next
 use Rattle.next.specs.Next.{answered, next_of}
 use Rattle.census.specs.Census.{words_for, counted, census_of}
 use Rattle.totals.specs.Totals.{given, run_pages, totalled, totals_of}
-use Rattle.bytes.specs.Bytes.{chosen, ear_fits, bytes_of, bytes_refusal_of}
+use Rattle.blockbytes.specs.Bytes.{chosen, ear_fits, bytes_of, bytes_refusal_of}
 use Rattle.requestlog.specs.declared.Field.{Field}
 use Rattle.requestlog.specs.declared.Field.TheVariants.{Start, Reserve, Release, Resize, End}
 use Rattle.requestlog.specs.declared.Cursor.{Cursor}

@@ -46,8 +46,8 @@ fn ask<'a>(
     left: &'a [u8],
     right: &'a [u8],
 ) -> io::Result<()> {
-    let r = bytes::bytes_refusal(ear, c, bits, words, slots, q, left, right);
-    let part = bytes::bytes(ear, c, bits, words, slots, q, left, right);
+    let r = blockbytes::bytes_refusal(ear, c, bits, words, slots, q, left, right);
+    let part = blockbytes::bytes(ear, c, bits, words, slots, q, left, right);
     tell(rt, "ear ", ear)?;
     tell(rt, " chunks ", c)?;
     tell(rt, " arenas ", widths::wide64(left.len()))?;

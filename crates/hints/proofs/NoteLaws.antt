@@ -97,12 +97,12 @@ module _ (c : ℕ) (q : Pool) (ok : admit_of c q ≡ 0) (g b : ℕ) (l : g < 512
 -- ---- page by page
 
 -- what a match tells where it has an arm for the first pages of class runs and one for all other kinds
-pub others_none : (k : Kind) → OneOf (0 ∷ 1 ∷ 2 ∷ 3 ∷ 5 ∷ []) (tag_of the_type k) → (d : ℕ) → is_run_of d k ≡ false
+pub others_none : (k : Kind) → ((b : ℕ) → k ≢ Class b) → (d : ℕ) → is_run_of d k ≡ false
 others_none Edge h d = refl
 others_none Free h d = refl
 others_none Damaged h d = refl
 others_none (Large n) h d = refl
-others_none (Class b) h d = absurd (miss (0 ∷ 1 ∷ 2 ∷ 3 ∷ 5 ∷ []) 4 tt h)
+others_none (Class b) h d = absurd (h b refl)
 others_none (Inner w) h d = refl
 
 -- one page more, which has no free slot of class d

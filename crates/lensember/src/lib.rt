@@ -12,7 +12,7 @@ ghost use Rattle.resize.specs.Resize.{resize_of};
 ghost use Rattle.next.specs.Next.{next_of};
 ghost use Rattle.census.specs.Census.{census_of};
 ghost use Rattle.totals.specs.Totals.{totals_of};
-ghost use Rattle.bytes.specs.Bytes.{part_of};
+ghost use Rattle.blockbytes.specs.Bytes.{part_of};
 ghost use Rattle.replay.specs.Run.{replay_of};
 ghost use Rattle.lines.specs.Lines.{printed_of};
 ghost use Rattle.writer.specs.Append.{append_as};
@@ -271,10 +271,10 @@ pub extern "C" fn lensember_bytes(
     place: u64,
     nleft: usize,
     nright: usize,
-) -> bytes::Part
+) -> blockbytes::Part
     ensures { result ≡ part_of ear c (before bits.now words.now slots.now) place nleft nright }
 {
-    bytes::part_of(ear, c, bits, words, slots, place, nleft, nright)
+    blockbytes::part_of(ear, c, bits, words, slots, place, nleft, nright)
 }
 
 // Replay of a request log (RULES 8).

@@ -137,19 +137,19 @@ pub record Other (p : Pool) (g : ℕ) : Type 0 where
   pub alone : Alone (kind_at p g)
   pub off : kind_at p g ≢ Edge
 
-pub others_alone : {p : Pool} {g f : ℕ} (k : Kind) → OneOf (1 ∷ 2 ∷ 3 ∷ 5 ∷ []) (tag_of the_type k) → Lies p g f k → Other p g
-others_alone {p} {g} {f} k h r = go k h r.is r.by
+pub others_alone : {p : Pool} {g f : ℕ} (k : Kind) → ((b : ℕ) → k ≢ Class b) → k ≢ Edge → Lies p g f k → Other p g
+others_alone {p} {g} {f} k d h r = go k d h r.is r.by
   where
     made : (j : Kind) → j ≡ kind_at p f → f ≡ g → Alone j → j ≢ Edge → Other p g
     made j e s a n = let x : j ≡ kind_at p g = e ∙ ap (kind_at p) s in record { alone = subst Alone x a; off = λ y. n (x ∙ y) }
 
-    go : (j : Kind) → OneOf (1 ∷ 2 ∷ 3 ∷ 5 ∷ []) (tag_of the_type j) → j ≡ kind_at p f → LiesBy p g f j → Other p g
-    go Edge x e s = absurd (miss (1 ∷ 2 ∷ 3 ∷ 5 ∷ []) 0 tt x)
-    go Free x e s = made Free e s tt (λ y. let z : ◌≡◌ {A = ℕ} 0 1 = cc in omega arith)
-    go Damaged x e s = made Damaged e s tt (λ y. let z : ◌≡◌ {A = ℕ} 0 1 = cc in omega arith)
-    go (Large n) x e s = made (Large n) e s tt (λ y. let z : ◌≡◌ {A = ℕ} 0 1 = cc in omega arith)
-    go (Class b) x e s = absurd (miss (1 ∷ 2 ∷ 3 ∷ 5 ∷ []) 4 tt x)
-    go (Inner w) x e s = made (Inner w) e s.0 s.1 (λ y. let z : ◌≡◌ {A = ℕ} 0 1 = cc in omega arith)
+    go : (j : Kind) → ((b : ℕ) → j ≢ Class b) → j ≢ Edge → j ≡ kind_at p f → LiesBy p g f j → Other p g
+    go Edge d x e s = absurd (x refl)
+    go Free d x e s = made Free e s tt (λ y. let z : ◌≡◌ {A = ℕ} 0 1 = cc in omega arith)
+    go Damaged d x e s = made Damaged e s tt (λ y. let z : ◌≡◌ {A = ℕ} 0 1 = cc in omega arith)
+    go (Large n) d x e s = made (Large n) e s tt (λ y. let z : ◌≡◌ {A = ℕ} 0 1 = cc in omega arith)
+    go (Class b) d x e s = absurd (d b refl)
+    go (Inner w) d x e s = made (Inner w) e s.0 s.1 (λ y. let z : ◌≡◌ {A = ℕ} 0 1 = cc in omega arith)
 
 module _ (c : ℕ) (p : Pool) (ok : admit_of c p ≡ 0) (q : ℕ) where
   whole : sound c p ≡ true

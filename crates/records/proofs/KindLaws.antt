@@ -86,10 +86,10 @@ Bare (Class b) = ⊥
 Bare (Inner w) = Unit {0}
 
 -- what a match tells where it has an arm each for the first pages of large runs and of class runs, and one for all other kinds
-pub others_bare : (k : Kind) → OneOf (0 ∷ 1 ∷ 2 ∷ 5 ∷ []) (tag_of the_type k) → Bare k
-others_bare Edge h = tt
-others_bare Free h = tt
-others_bare Damaged h = tt
-others_bare (Large k) h = miss (0 ∷ 1 ∷ 2 ∷ 5 ∷ []) 3 tt h
-others_bare (Class b) h = miss (0 ∷ 1 ∷ 2 ∷ 5 ∷ []) 4 tt h
-others_bare (Inner w) h = tt
+pub others_bare : (k : Kind) → ((n : ℕ) → k ≢ Large n) → ((b : ℕ) → k ≢ Class b) → Bare k
+others_bare Edge l d = tt
+others_bare Free l d = tt
+others_bare Damaged l d = tt
+others_bare (Large k) l d = l k refl
+others_bare (Class b) l d = d b refl
+others_bare (Inner w) l d = tt

@@ -2,7 +2,7 @@
 use mathlib.Core.Path.{◌≡◌, refl, sym, ap, ap₂, ◌∙◌, subst}
 use mathlib.Core.Bool.{false}
 use mathlib.Core.List.{[], ◌∷◌}
-use types.Run.{OneOf, miss}
+use mathlib.Core.Logic.{◌≢◌}
 use denote.Enum.Declared.{tag_of}
 use Prim.Native.Nat.{ℕ, suc, ◌+◌, ◌*◌, ◌%◌, ◌≤◌, ◌<◌}
 use native.Mathlib.Nat.{mul-le-mul}
@@ -59,8 +59,8 @@ pub full_as : {x : Plan} {r : ℕ} → x ≡ Refuse r → eqb r no_room ≡ is_f
 full_as e = sym (ap is_full e)
 
 -- a plan that refuses nothing
-pub others_roomy : (x : Plan) → OneOf (1 ∷ 2 ∷ 3 ∷ []) (tag_of the_type x) → is_full x ≡ false
-others_roomy (Refuse r) o = absurd (miss (1 ∷ 2 ∷ 3 ∷ []) 0 tt o)
+pub others_roomy : (x : Plan) → ((r : ℕ) → x ≢ Refuse r) → is_full x ≡ false
+others_roomy (Refuse r) o = absurd (o r refl)
 others_roomy (TakeSlot g b s) o = refl
 others_roomy (NewClass g b) o = refl
 others_roomy (NewLarge g k) o = refl

@@ -8,7 +8,7 @@ use native.Mathlib.Omega.{arith}
 use lib.Dec.{eqb}
 use lib.ListN.{length, length-append}
 use borrow.Author.Tests.{eq-eqb, ne_eqb}
-use types.Run.{OneOf, miss}
+use mathlib.Core.Logic.{◌≢◌}
 use denote.Enum.Declared.{tag_of}
 use Rattle.bitrow.specs.Row.{digit, bit_at, is_set, count_bits}
 use Rattle.bitrow.proofs.Rows.{bit_at_le}
@@ -134,12 +134,12 @@ large_few {k} {n} e l = let s : span_of k ≡ suc n = ap span_of e in omega arit
 -- ---- what a page is, and the row of its class
 
 -- what a match tells where it has an arm for the first pages of class runs, and one for all other kinds
-pub others_zero : (k : Kind) → OneOf (0 ∷ 1 ∷ 2 ∷ 3 ∷ 5 ∷ []) (tag_of the_type k) → 0 ≡ class_in k
+pub others_zero : (k : Kind) → ((b : ℕ) → k ≢ Class b) → 0 ≡ class_in k
 others_zero Edge h = refl
 others_zero Free h = refl
 others_zero Damaged h = refl
 others_zero (Large k) h = refl
-others_zero (Class b) h = absurd (miss (0 ∷ 1 ∷ 2 ∷ 3 ∷ 5 ∷ []) 4 tt h)
+others_zero (Class b) h = absurd (h b refl)
 others_zero (Inner w) h = refl
 
 module _ (p : Pool) (g : ℕ) where

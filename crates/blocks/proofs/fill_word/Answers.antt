@@ -8,4 +8,4 @@ pub returns : goal.returns
 returns c = λ g k t.
     let i = c.args.i in
     word_filled (pool c.args.bits.now c.args.words.now c.args.slots.now) i
-    (c.type_inv.slots i).fits _ g k t c.wrapping_add_u64.ensures
+    (c.slice_known-3-1.given i).fits _ g k t c.wrapping_add_u64.ensures.value

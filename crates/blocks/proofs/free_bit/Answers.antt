@@ -7,4 +7,4 @@ use Rattle.blocks.proofs.free_bit.Goals as goal
 pub returns : goal.returns
 returns c =
     let i = c.args.i in
-    bit_freed (pool c.args.bits.now c.args.words.now c.args.slots.now) i (c.type_inv.slots i).fits _
+    bit_freed (pool c.args.bits.now c.args.words.now c.args.slots.now) i (c.slice_known-1.given i).fits _

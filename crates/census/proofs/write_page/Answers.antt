@@ -46,4 +46,4 @@ returns-in-Large c =
 
 pub returns-in_default : goal.returns-in_default
 returns-in_default c =
-    wrote_none _ _ _ (bare_blocks _ _ _ c.kind_at-k.ensures (others_bare c.kind_at-k.result c.in_default.keys3))
+    wrote_none _ _ _ (bare_blocks _ _ _ c.kind_at-k.ensures (others_bare c.kind_at-k.result c.in_default.not-Large c.in_default.not-Class))

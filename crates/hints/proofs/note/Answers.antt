@@ -9,6 +9,7 @@ use Rattle.hints.proofs.RowLaws.{lent_long}
 use Rattle.hints.proofs.NoteLaws.{Told, told_none, told_on, told_off, told_byte, Placed, placed, noted_anew}
 use borrow.Author.Rules.{rules}
 use Rattle.hints.proofs.note.Goals as goal
+use Rattle.hints.proofs.note.Goals.{then-slots-g, else-slots-g}
 
 pub loop-k-init : goal.loop-k-init
 loop-k-init c = let sound = c.requires.sound in let cuts = c.requires.cuts in let run = c.requires.run in let inside = c.requires.inside in (omega arith, refl, placed _ _ sound _ _ inside run, told_none _ _ _)
@@ -16,12 +17,14 @@ loop-k-init c = let sound = c.requires.sound in let cuts = c.requires.cuts in le
 pub loop-k-preserved : goal.loop-k-preserved
 loop-k-preserved c =
     let h = c.loop-k.invariant in
-    let sound = c.requires.sound in let cuts = c.requires.cuts in let run = c.requires.run in let inside = c.requires.inside in let fits = c.type_inv.slots in (
+    let sound = c.requires.sound in let cuts = c.requires.cuts in let run = c.requires.run in let inside = c.requires.inside in let fits = c.shared_slice_known-3-1.given in (
       omega arith,
       h.1,
       h.2,
-      ⊎_elim (λ w. told_on _ _ sound _ _ inside run _ cuts.0 (fits _).fits h.3 c.loop-k-test.true w.0.taken w.1)
-          (λ w. told_off _ _ sound _ _ inside run _ cuts.0 (fits _).fits h.3 c.loop-k-test.true w.0.left w.1) c.if-slots-g.branch,
+      elim c.if-slots-g.branch [
+        | then-slots-g w ↦ told_on _ _ sound _ _ inside run _ cuts.0 (fits _).fits h.3 c.loop-k-test.true w.if-slots-g.true w.o-is
+        | else-slots-g w ↦ told_off _ _ sound _ _ inside run _ cuts.0 (fits _).fits h.3 c.loop-k-test.true w.if-slots-g.false w.o-is
+      ],
     )
 
 pub overflow_cast-opens : goal.overflow_cast-opens
@@ -34,3 +37,6 @@ pub returns : goal.returns
 returns c =
     let sound = c.requires.sound in let cuts = c.requires.cuts in let run = c.requires.run in let inside = c.requires.inside in
     noted_anew _ _ sound _ _ inside run c.args.rows.now c.args.opens.now c.loop-k.invariant.3 (omega arith) _ c.put_mark.ensures
+
+pub overflow_mul-from : goal.overflow_mul-from
+overflow_mul-from c = omega (arith, class_at_low)

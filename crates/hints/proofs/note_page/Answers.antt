@@ -12,7 +12,7 @@ note-requires c =
 pub returns-in_default : goal.returns-in_default
 returns-in_default c =
     let sound = c.requires.sound in let marks = c.requires.marks in let inside = c.requires.inside in
-    next_bare marks c.kind_at.result c.kind_at.ensures (others_none c.kind_at.result c.in_default.keys2)
+    next_bare marks c.kind_at.result c.kind_at.ensures (others_none c.kind_at.result c.in_default.not-Class)
 
 pub returns : goal.returns
 returns c =

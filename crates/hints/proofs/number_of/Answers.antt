@@ -19,6 +19,10 @@ pub returns-then-j-eq-COUNT : goal.returns-then-j-eq-COUNT
 returns-then-j-eq-COUNT c =
     let class = c.requires.class in let bytes = c.requires.bytes in let count = c.requires.count in let place = c.requires.place in started_count _ _ _ (c.wide64.ensures ∙ count) (omega arith)
 
+pub nonzero_div-result : goal.nonzero_div-result
+nonzero_div-result c =
+    let class = c.requires.class in let bytes = c.requires.bytes in let count = c.requires.count in let place = c.requires.place in let h = row_facts _ class in omega arith
+
 pub overflow_add-result : goal.overflow_add-result
 overflow_add-result c =
     let l = div-le_self 4294967295 c.args.bytes in omega arith

@@ -13,48 +13,54 @@ use Rattle.hints.proofs.PartLaws.{part_cut}
 use Rattle.hints.proofs.TakeLaws.{Reached, reached, Aimed, aimed, took}
 use Rattle.hints.proofs.take_at.Goals as goal
 
-abbrev Asked : goal.Start → Type 0
-Asked s = Front (lent s.args.bits.now s.args.words.now s.args.slots.now) s.args.row.now s.args.opens.now s.args.j s.args.top
-
-abbrev start : goal.After-first_one → goal.Start
-start c = c
-
--- the page is found
-page : (c : goal.After-first_one) (f : Asked (start c)) → Reached f c.first_one.result
-page c f = reached f _ (omega arith) (c.type_inv.row (start c).args.j).fits c.first_one.ensures
-
--- its slot word, and the bit of its byte
-word : (c : goal.After-first_one-k) (f : Asked (start c)) → Aimed f c.first_one.result c.first_one-k.result c.wide64-o.result
-word c f = aimed f _ (page c f) (c.wide64-o.ensures ∙ c.wide8.ensures) c.first_one-k.ensures
-
-near : (c : goal.After-first_one-k) → Aimed (start c).requires c.first_one.result c.first_one-k.result c.wide64-o.result
-near c = word c (start c).requires
-
+-- `first`: the page is found; `aim`: its slot word, and the bit of its byte
 pub bounds-opens-g : goal.bounds-opens-g
-bounds-opens-g c = (page c (start c).requires).page
+bounds-opens-g c =
+    let first : Reached c.requires c.first_one.result = reached c.requires _ (omega arith) (c.slice_known-5-1.given c.args.j).fits c.first_one.ensures in
+    first.page
 
 pub bounds-slots-i : goal.bounds-slots-i
-bounds-slots-i c = (near c).word
+bounds-slots-i c =
+    let first : Reached c.requires c.first_one.result = reached c.requires _ (omega arith) (c.slice_known-5-1.given c.args.j).fits c.first_one.ensures in
+    let aim : Aimed c.requires c.first_one.result c.first_one-k.result c.wide64-o.result = aimed c.requires _ first (c.wide64-o.ensures ∙ c.wide8.ensures) c.first_one-k.ensures in
+    aim.word
 
 pub fill_word-v-requires : goal.fill_word-v-requires
-fill_word-v-requires c = (near c).word
+fill_word-v-requires c =
+    let first : Reached c.requires c.first_one.result = reached c.requires _ (omega arith) (c.slice_known-5-1.given c.args.j).fits c.first_one.ensures in
+    let aim : Aimed c.requires c.first_one.result c.first_one-k.result c.wide64-o.result = aimed c.requires _ first (c.wide64-o.ensures ∙ c.wide8.ensures) c.first_one-k.ensures in
+    aim.word
 
 pub bounds-row-k : goal.bounds-row-k
-bounds-row-k c = (near c).mask
+bounds-row-k c =
+    let first : Reached c.requires c.first_one.result = reached c.requires _ (omega arith) (c.slice_known-5-1.given c.args.j).fits c.first_one.ensures in
+    let aim : Aimed c.requires c.first_one.result c.first_one-k.result c.wide64-o.result = aimed c.requires _ first (c.wide64-o.ensures ∙ c.wide8.ensures) c.first_one-k.ensures in
+    aim.mask
 
 pub without_lowest-p-requires : goal.without_lowest-p-requires
-without_lowest-p-requires c = (near c).some
+without_lowest-p-requires c =
+    let first : Reached c.requires c.first_one.result = reached c.requires _ (omega arith) (c.slice_known-5-1.given c.args.j).fits c.first_one.ensures in
+    let aim : Aimed c.requires c.first_one.result c.first_one-k.result c.wide64-o.result = aimed c.requires _ first (c.wide64-o.ensures ∙ c.wide8.ensures) c.first_one-k.ensures in
+    aim.some
 
 pub overflow_cast-opens : goal.overflow_cast-opens
 overflow_cast-opens c =
-    let full = eqb c.fill_word-v.result (get_or (start c).args.row.now (130 + c.first_one-k.result) 0) in
-    record { fits = (near c).byte (not full) _ c.without_lowest-p.ensures }
+    let first : Reached c.requires c.first_one.result = reached c.requires _ (omega arith) (c.slice_known-5-1.given c.args.j).fits c.first_one.ensures in
+    let aim : Aimed c.requires c.first_one.result c.first_one-k.result c.wide64-o.result = aimed c.requires _ first (c.wide64-o.ensures ∙ c.wide8.ensures) c.first_one-k.ensures in
+    let full = eqb c.fill_word-v.result (get_or c.args.row.now (130 + c.first_one-k.result) 0) in
+    record { fits = aim.byte (not full) _ c.without_lowest-p.ensures }
 
 pub bounds-opens-g-2 : goal.bounds-opens-g-2
-bounds-opens-g-2 c = (near c).at.page
+bounds-opens-g-2 c =
+    let first : Reached c.requires c.first_one.result = reached c.requires _ (omega arith) (c.slice_known-5-1.given c.args.j).fits c.first_one.ensures in
+    let aim : Aimed c.requires c.first_one.result c.first_one-k.result c.wide64-o.result = aimed c.requires _ first (c.wide64-o.ensures ∙ c.wide8.ensures) c.first_one-k.ensures in
+    aim.at.page
 
 pub without_lowest-l-requires : goal.without_lowest-l-requires
-without_lowest-l-requires c = (near c).at.front
+without_lowest-l-requires c =
+    let first : Reached c.requires c.first_one.result = reached c.requires _ (omega arith) (c.slice_known-5-1.given c.args.j).fits c.first_one.ensures in
+    let aim : Aimed c.requires c.first_one.result c.first_one-k.result c.wide64-o.result = aimed c.requires _ first (c.wide64-o.ensures ∙ c.wide8.ensures) c.first_one-k.ensures in
+    aim.at.front
 
 pub bounds-row-j-3 : goal.bounds-row-j-3
 bounds-row-j-3 c =
@@ -62,6 +68,8 @@ bounds-row-j-3 c =
 
 pub returns : goal.returns
 returns c = λ f.
-    let j = (start c).args.j in
-    took f c.first_one.result (word c f) _ _ _ _ _ _ (c.type_inv.slots (8 * (64 * j + c.first_one.result) + c.first_one-k.result)).fits
+    let j = c.args.j in
+    let first : Reached f c.first_one.result = reached f _ (omega arith) (c.slice_known-5-1.given j).fits c.first_one.ensures in
+    took f c.first_one.result (aimed f _ first (c.wide64-o.ensures ∙ c.wide8.ensures) c.first_one-k.ensures) _ _ _ _ _ _
+    (c.slice_known-7-1.given (8 * (64 * j + c.first_one.result) + c.first_one-k.result)).fits
     c.first_zero.ensures c.fill_word-v.ensures c.without_lowest-p.ensures c.without_lowest-l.ensures c.without_lowest.ensures

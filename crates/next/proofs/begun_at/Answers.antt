@@ -23,4 +23,4 @@ returns-in-Class c =
     c.wide16-z.ensures
 
 pub returns-in_default : goal.returns-in_default
-returns-in_default c = begun_bare _ _ _ (others_bare c.kind_at.result c.in_default.keys3) c.kind_at.ensures
+returns-in_default c = begun_bare _ _ _ (others_bare c.kind_at.result c.in_default.not-Large c.in_default.not-Class) c.kind_at.ensures

@@ -92,18 +92,14 @@ next_bit-requires c =
 
 pub overflow_mul-slot : goal.overflow_mul-slot
 overflow_mul-slot c =
-    let d =
-    c in
-    let s = (admitted _ _ d.pre).shape in omega arith
+    let s = (admitted _ _ c.requires).shape in omega arith
 
 pub overflow_sub-slot : goal.overflow_sub-slot
 overflow_sub-slot c = let r = (next_low _ _ _ _ (omega arith) c.next_bit.ensures).0 in omega arith
 
 pub overflow_mul-g-then-slot-n : goal.overflow_mul-g-then-slot-n
 overflow_mul-g-then-slot-n c =
-    let d =
-    c in
-    let s = (admitted _ _ d.pre).shape in omega arith
+    let s = (admitted _ _ c.requires).shape in omega arith
 
 pub overflow_mul-slot-then-slot-n : goal.overflow_mul-slot-then-slot-n
 overflow_mul-slot-then-slot-n c =
@@ -139,9 +135,7 @@ next_bit-requires-in-loop-page c =
 
 pub overflow_mul-page-in-loop-page : goal.overflow_mul-page-in-loop-page
 overflow_mul-page-in-loop-page c =
-    let d =
-    c in
-    let s = (admitted _ _ d.pre).shape in omega arith
+    let s = (admitted _ _ c.requires).shape in omega arith
 
 pub overflow_sub-page-in-loop-page : goal.overflow_sub-page-in-loop-page
 overflow_sub-page-in-loop-page c = let r = next_low _ _ _ _ (omega arith) c.next_bit-in-loop-page.ensures in let r₀ = r.0 in let r₁ = r.1 in omega arith

@@ -34,11 +34,11 @@ returns-in-Edge c =
 pub returns-then-q-eq0 : goal.returns-then-q-eq0
 returns-then-q-eq0 c =
     let e = c.requires in
-    let o = others_alone c.home_at-home.result.kind c.in_default.keys3 c.home_at-home.ensures in
+    let o = others_alone c.home_at-home.result.kind c.in_default.not-Class c.in_default.not-Edge c.home_at-home.ensures in
     start_here _ _ e.0 _ e.1 o.alone o.off c.if-q-eq0.true
 
 pub returns-in_default : goal.returns-in_default
 returns-in_default c =
     let e = c.requires in
-    let o = others_alone c.home_at-home.result.kind c.in_default.keys3 c.home_at-home.ensures in
+    let o = others_alone c.home_at-home.result.kind c.in_default.not-Class c.in_default.not-Edge c.home_at-home.ensures in
     start_behind _ _ e.0 _ e.1 refl o.alone c.if-q-eq0.false

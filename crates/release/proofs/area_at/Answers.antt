@@ -30,4 +30,4 @@ returns-in-Large c =
 pub returns-in_default : goal.returns-in_default
 returns-in_default c =
     lies_bare _ _ c.requires _ (omega arith) _ _ (others_bare c.home_at-home.result.kind
-    c.in_default.keys3) c.home_at-home.ensures
+    c.in_default.not-Large c.in_default.not-Class) c.home_at-home.ensures

@@ -8,4 +8,4 @@ pub returns-in-Refuse : goal.returns-in-Refuse
 returns-in-Refuse c = full_as c.in-Refuse.is
 
 pub returns-in_default : goal.returns-in_default
-returns-in_default c = sym (others_roomy c.args.x c.in_default.keys2)
+returns-in_default c = sym (others_roomy c.args.x c.in_default.not-Refuse)

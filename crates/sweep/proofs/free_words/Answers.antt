@@ -7,6 +7,7 @@ use mathlib.Core.Path.{◌∙◌}
 use Rattle.sweep.specs.Found.{WordsFreed}
 use Rattle.sweep.proofs.FreeLaws.{word_kept, word_freed, freed_none, freed_more, freed_done}
 use Rattle.sweep.proofs.free_words.Goals as goal
+use Rattle.sweep.proofs.free_words.Goals.{then-w-i-eq1, else-w-i-eq1}
 
 pub loop-i-init : goal.loop-i-init
 loop-i-init c = (omega arith, freed_none _ _ _)
@@ -21,7 +22,7 @@ pub loop-i-preserved : goal.loop-i-preserved
 loop-i-preserved c = (
   omega arith,
   freed_more _ c.loop-i.invariant.1 (omega arith)
-      (⊎_elim (λ x. x.1 ∙ word_kept _ _ _ x.0.taken) (λ x. x.1 ∙ word_freed _ _ _ x.0.left) c.if-w-i-eq1.branch),
+      (elim c.if-w-i-eq1.branch [ then-w-i-eq1 x ↦ x.words-is ∙ word_kept _ _ _ x.if-w-i-eq1.true | else-w-i-eq1 x ↦ x.words-is ∙ word_freed _ _ _ x.if-w-i-eq1.false ]),
 )
 
 pub shape_of-words : goal.shape_of-words

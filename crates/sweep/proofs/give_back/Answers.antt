@@ -9,6 +9,7 @@ use Rattle.blocks.proofs.KeepLaws.{admit_good}
 use Rattle.sweep.specs.Sweep.{swept}
 use Rattle.sweep.proofs.SpareLaws.{Giving, giving_none, giving_on, giving_stays, giving_done}
 use Rattle.sweep.proofs.give_back.Goals as goal
+use Rattle.sweep.proofs.give_back.Goals.{then-bits-k, else-bits-k}
 
 pub overflow_mul-n : goal.overflow_mul-n
 overflow_mul-n c = let l = (admitted _ _ c.requires.sound).shape in omega arith
@@ -38,8 +39,7 @@ loop-k-preserved c =
     let x = c.requires.spare.words c.loop-k.k (omega arith) in (
       omega arith,
       few,
-      ⊎_elim (λ z. rw (z.5, z.6) (giving_on good f (omega arith) x z.2.ensures))
-          (λ z. rw (z.1, z.2) (giving_stays good f (omega arith) x z.0.left)) c.if-bits-k.branch,
+      elim c.if-bits-k.branch [ then-bits-k z ↦ rw (z.bits-is, z.words-is) (giving_on good f (omega arith) x z.free_64.ensures) | else-bits-k z ↦ rw (z.bits-is, z.words-is) (giving_stays good f (omega arith) x z.if-bits-k.false) ],
     )
 
 pub shape_of-bits : goal.shape_of-bits

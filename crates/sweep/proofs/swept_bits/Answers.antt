@@ -39,7 +39,7 @@ loop-k-preserved c =
     let (k, few, f) = c.loop-k.invariant in (
       omega arith,
       few,
-      sparing_on (admit_good _ _ c.requires.sound) few (λ j. (c.type_inv.bits j).fits) f (omega arith) c.empty_64-x.ensures
+      sparing_on (admit_good _ _ c.requires.sound) few (λ j. (c.shared_slice_known-1.given j).fits) f (omega arith) c.empty_64-x.ensures
           c.struct_known-1.given.0.fits,
     )
 

@@ -4,4 +4,4 @@ use borrow.Author.Rules.{rules}
 use Rattle.totals.proofs.class_in.Goals as goal
 
 pub returns-in_default : goal.returns-in_default
-returns-in_default c = others_zero c.args.k c.in_default.keys2
+returns-in_default c = others_zero c.args.k c.in_default.not-Class

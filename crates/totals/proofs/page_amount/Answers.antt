@@ -38,4 +38,4 @@ pub returns-in-Large : goal.returns-in-Large
 returns-in-Large c = amount_large c.args.slots.now _ _ _ c.in-Large.is
 
 pub returns-in_default : goal.returns-in_default
-returns-in_default c = amount_none c.args.slots.now _ c.args.k (others_bare c.args.k c.in_default.keys3)
+returns-in_default c = amount_none c.args.slots.now _ c.args.k (others_bare c.args.k c.in_default.not-Large c.in_default.not-Class)

@@ -4,7 +4,7 @@ use Rattle.refusals.specs.Refusals.{shape}
 use Rattle.records.specs.Pool.{Pool}
 use Rattle.release.specs.declared.Sized.{Sized}
 use Rattle.release.specs.Release.{size_of}
-use Rattle.bytes.specs.declared.Part.{Part}
+use Rattle.blockbytes.specs.declared.Part.{Part}
 
 -- the one that the ear picks: 0 left, 1 right
 abbrev pub chosen : {A : Type 0} → ℕ → A → A → A

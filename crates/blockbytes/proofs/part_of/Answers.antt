@@ -2,8 +2,8 @@
 use borrow.Author.Tests.{not-true, not-false}
 use borrow.Author.Rules.{rules}
 use Rattle.release.proofs.GiveLaws.{size_refused, size_served}
-use Rattle.bytes.proofs.PartLaws.{part_unfit, part_refused, part_served}
-use Rattle.bytes.proofs.part_of.Goals as goal
+use Rattle.blockbytes.proofs.PartLaws.{part_unfit, part_refused, part_served}
+use Rattle.blockbytes.proofs.part_of.Goals as goal
 
 pub returns-then-not-ear_fits : goal.returns-then-not-ear_fits
 returns-then-not-ear_fits c = part_unfit _ _ _ _ _ _ c.ear_fits.ensures c.if-not-ear_fits.true

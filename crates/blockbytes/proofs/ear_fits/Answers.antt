@@ -1,8 +1,8 @@
 -- `bytes::ear_fits` meets its contract. Assumes nothing.
 use native.Mathlib.Omega.{arith}
 use borrow.Author.Rules.{rules}
-use Rattle.bytes.proofs.PartLaws.{fits_left, fits_right, fits_neither}
-use Rattle.bytes.proofs.ear_fits.Goals as goal
+use Rattle.blockbytes.proofs.PartLaws.{fits_left, fits_right, fits_neither}
+use Rattle.blockbytes.proofs.ear_fits.Goals as goal
 
 pub returns-then-ear-gt1 : goal.returns-then-ear-gt1
 returns-then-ear-gt1 c = fits_neither _ _ _ _ (omega (arith, c.if-ear-gt1.true))

@@ -1,7 +1,7 @@
 -- `bytes::is_chunks` meets its contract. Assumes nothing.
 use borrow.Author.Rules.{rules}
-use Rattle.bytes.proofs.PartLaws.{chunks_none, chunks_as}
-use Rattle.bytes.proofs.is_chunks.Goals as goal
+use Rattle.blockbytes.proofs.PartLaws.{chunks_none, chunks_as}
+use Rattle.blockbytes.proofs.is_chunks.Goals as goal
 
 pub returns-then-n-ne0 : goal.returns-then-n-ne0
 returns-then-n-ne0 c = chunks_none _ _ c.if-n-ne0.true

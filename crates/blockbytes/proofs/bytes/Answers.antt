@@ -2,8 +2,8 @@
 use Prim.Native.Nat.{◌^◌}
 use native.Mathlib.Omega.{arith}
 use borrow.Author.Rules.{rules}
-use Rattle.bytes.proofs.PartLaws.{ends_left, ends_right, ends_low, bytes_left, bytes_right}
-use Rattle.bytes.proofs.bytes.Goals as goal
+use Rattle.blockbytes.proofs.PartLaws.{ends_left, ends_right, ends_low, bytes_left, bytes_right}
+use Rattle.blockbytes.proofs.bytes.Goals as goal
 
 pub overflow_add-e : goal.overflow_add-e
 overflow_add-e c = record { fits = ends_low _ _ _ _ _ _ c.part_of-x.ensures (2 ^ 64) (omega arith) (omega arith) }

@@ -18,8 +18,8 @@ use Rattle.records.proofs.Flags.{flag_eq, eq_cases, cond_eq, cond_ne, and_right}
 use Rattle.release.specs.declared.Sized.{Sized}
 use Rattle.release.specs.Release.{spot, sized, size_at, size_of}
 use Rattle.release.proofs.MeanLaws.{size_inside}
-use Rattle.bytes.specs.declared.Part.{Part}
-use Rattle.bytes.specs.Bytes.{chosen, ear_fits, part, part_at, part_of, bytes_of, bytes_refusal_of}
+use Rattle.blockbytes.specs.declared.Part.{Part}
+use Rattle.blockbytes.specs.Bytes.{chosen, ear_fits, part, part_at, part_of, bytes_of, bytes_refusal_of}
 
 -- ---- the chosen arena
 

@@ -1,7 +1,7 @@
 -- `bytes::bytes_refusal` meets its contract. Assumes nothing.
 use borrow.Author.Rules.{rules}
-use Rattle.bytes.proofs.PartLaws.{refusal_as}
-use Rattle.bytes.proofs.bytes_refusal.Goals as goal
+use Rattle.blockbytes.proofs.PartLaws.{refusal_as}
+use Rattle.blockbytes.proofs.bytes_refusal.Goals as goal
 
 pub returns : goal.returns
 returns c = refusal_as _ _ _ _ _ _ c.part_of-x.ensures

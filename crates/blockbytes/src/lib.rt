@@ -3,7 +3,7 @@
 
 ghost use Rattle.std.specs.Prelude.{◌≡◌, ◌*◌, eqb};
 ghost use Rattle.records.specs.Lent.{before};
-ghost use Rattle.bytes.specs.Bytes.{chosen, ear_fits, part_of, bytes_of, bytes_refusal_of};
+ghost use Rattle.blockbytes.specs.Bytes.{chosen, ear_fits, part_of, bytes_of, bytes_refusal_of};
 
 use refusals::SHAPE;
 
