@@ -4,7 +4,7 @@
 
 ghost use Rattle.std.specs.Prelude.{◌≡◌, ◌≤◌, length};
 
-use libc::STDOUT_FILENO;
+use std::io;
 
 // An arena of one chunk, before anything is written into it.
 fn blank() -> [u8; 2097152]
@@ -30,13 +30,13 @@ fn mark_blocks(arena: &mut [u8], ear: u64)
 }
 
 // A number behind its name.
-fn tell(name: &[u8], n: u64) {
-    io::write_all(STDOUT_FILENO, name);
-    io::print_decimal(STDOUT_FILENO, n);
+fn tell(rt: &impl Print, name: &str, n: u64) -> io::Result<()> {
+    print!(rt; "{name}{n}")
 }
 
 // One question in one line: what is asked, the number, and the part's length and first bytes.
 fn ask<'a>(
+    rt: &impl Print,
     ear: u64,
     c: u64,
     bits: &[u64],
@@ -45,64 +45,72 @@ fn ask<'a>(
     q: u64,
     left: &'a [u8],
     right: &'a [u8],
-) {
+) -> io::Result<()> {
     let r = blockbytes::bytes_refusal(ear, c, bits, words, slots, q, left, right);
     let part = blockbytes::bytes(ear, c, bits, words, slots, q, left, right);
-    tell(b"ear ", ear);
-    tell(b" chunks ", c);
-    tell(b" arenas ", widths::wide64(left.len()));
-    tell(b" ", widths::wide64(right.len()));
-    tell(b" place ", q);
-    tell(b": refusal ", r);
-    tell(b" length ", widths::wide64(part.len()));
-    io::write_all(STDOUT_FILENO, b" \"");
-    let n = io::count(16, part);
-    io::write_all(STDOUT_FILENO, &part[..n]);
-    io::write_all(STDOUT_FILENO, b"\"\n");
+    tell(rt, "ear ", ear)?;
+    tell(rt, " chunks ", c)?;
+    tell(rt, " arenas ", widths::wide64(left.len()))?;
+    tell(rt, " ", widths::wide64(right.len()))?;
+    tell(rt, " place ", q)?;
+    tell(rt, ": refusal ", r)?;
+    tell(rt, " length ", widths::wide64(part.len()))?;
+    print!(rt; " \"")?;
+    let n = part.len().min(16);
+    rt.write_all(&part[..n])?;
+    println!(rt; "\"")
 }
 
 // What is asked of either ear while its records are sound.
 fn ask_sound<'a>(
+    rt: &impl Print,
     ear: u64,
     bits: &[u64],
     words: &[u32],
     slots: &[u64],
     left: &'a [u8],
     right: &'a [u8],
-) {
-    ask(ear, 1, bits, words, slots, 4096, left, right);
-    ask(ear, 1, bits, words, slots, 4120, left, right);
-    ask(ear, 1, bits, words, slots, 4130, left, right);
-    ask(ear, 1, bits, words, slots, 8192, left, right);
-    ask(ear, 1, bits, words, slots, 14336, left, right);
-    ask(ear, 2, bits, words, slots, 8192, left, right);
-    ask(2, 1, bits, words, slots, 8192, left, right);
+) -> io::Result<()> {
+    ask(rt, ear, 1, bits, words, slots, 4096, left, right)?;
+    ask(rt, ear, 1, bits, words, slots, 4120, left, right)?;
+    ask(rt, ear, 1, bits, words, slots, 4130, left, right)?;
+    ask(rt, ear, 1, bits, words, slots, 8192, left, right)?;
+    ask(rt, ear, 1, bits, words, slots, 14336, left, right)?;
+    ask(rt, ear, 2, bits, words, slots, 8192, left, right)?;
+    ask(rt, 2, 1, bits, words, slots, 8192, left, right)?;
     // only the chosen arena's length is checked
     let none = &left[..0];
-    ask(ear, 1, bits, words, slots, 8192, left, none);
-    ask(ear, 1, bits, words, slots, 8192, none, right);
+    ask(rt, ear, 1, bits, words, slots, 8192, left, none)?;
+    ask(rt, ear, 1, bits, words, slots, 8192, none, right)
 }
 
 // An ear whose pool is what the log leaves; then that pool without the word of the run at page 2.
-fn ask_ear<'a>(ear: u64, log: &[u8], left: &'a [u8], right: &'a [u8]) {
+fn ask_ear<'a>(
+    rt: &impl Print,
+    ear: u64,
+    log: &[u8],
+    left: &'a [u8],
+    right: &'a [u8],
+) -> io::Result<()> {
     let mut bits = [0; 8];
     let mut words = [0; 512];
     let mut slots = [0; 4096];
     replay::replay(1, &mut bits, &mut words, &mut slots, log);
-    ask_sound(ear, &bits, &words, &slots, left, right);
+    ask_sound(rt, ear, &bits, &words, &slots, left, right)?;
     words[2] = 0;
-    io::write_all(STDOUT_FILENO, b"page word 2 is lost\n");
-    ask(ear, 1, &bits, &words, &slots, 4096, left, right);
-    ask(ear, 2, &bits, &words, &slots, 4096, left, right);
+    println!(rt; "page word 2 is lost")?;
+    ask(rt, ear, 1, &bits, &words, &slots, 4096, left, right)?;
+    ask(rt, ear, 2, &bits, &words, &slots, 4096, left, right)
 }
 
-fn main() {
+fn main(rt: HostRuntime) -> io::Result<()> {
     let mut left = blank();
     let mut right = blank();
     mark_blocks(&mut left, 0);
     mark_blocks(&mut right, 1);
     // start 1; reserve 24, 24, 5000; release 4096; end
     ask_ear(
+        &rt,
         0,
         b"\x01\0\x01\x01\
         \x02\0\x04\0\0\0\x18\
@@ -112,9 +120,10 @@ fn main() {
         \x04\0\0",
         &left,
         &right,
-    );
+    )?;
     // start 1; reserve 24, 3000; end
     ask_ear(
+        &rt,
         1,
         b"\x01\0\x01\x01\
         \x02\0\x04\0\0\0\x18\
@@ -122,5 +131,5 @@ fn main() {
         \x04\0\0",
         &left,
         &right,
-    );
+    )
 }

@@ -3,8 +3,6 @@
 
 ghost use Rattle.std.specs.Prelude.{◌≡◌, length};
 
-use libc::{STDERR_FILENO, STDIN_FILENO, STDOUT_FILENO};
-
 // Room for the log, and for one byte more, which tells that it is too long.
 fn log_room() -> [u8; 1048577]
     ensures { 1048577 ≡ length result }
@@ -19,34 +17,29 @@ fn text_room() -> [u8; 1797560]
     [0; 1797560]
 }
 
-fn tell(what: &[u8]) {
-    io::write_all(STDERR_FILENO, b"lensember-export: ");
-    io::write_all(STDERR_FILENO, what);
+fn tell(rt: &impl Eprint, what: &str) {
+    let _ = eprintln!(rt; "lensember-export: {what}");
 }
 
-fn tell_field(refusal: u64, position: u64) {
-    tell(b"log refused ");
-    io::print_decimal(STDERR_FILENO, refusal);
-    io::write_all(STDERR_FILENO, b" at ");
-    io::print_decimal(STDERR_FILENO, position);
-    io::write_all(STDERR_FILENO, b"\n");
+fn tell_field(rt: &impl Eprint, refusal: u64, position: u64) {
+    let _ = eprintln!(rt; "lensember-export: log refused {refusal} at {position}");
 }
 
-fn main() {
+fn main(rt: HostRuntime) {
     let mut log = log_room();
     let mut text = text_room();
-    let n = io::read_full(STDIN_FILENO, &mut log);
+    let n = streams::read_full(&mut rt.stdin(), &mut log);
     if 1048576 < n {
-        tell(b"the log is longer than 1048576 bytes\n");
+        tell(&rt, "the log is longer than 1048576 bytes");
         return;
     }
     let r = exchange::export(&log[..n], &mut text);
     if r.refusal != 0 {
-        tell_field(r.refusal, r.position);
+        tell_field(&rt, r.refusal, r.position);
         return;
     }
     let k = r.length as usize;
-    if !io::write_all(STDOUT_FILENO, &text[..k]) {
-        tell(b"the text could not be written\n");
+    if rt.write_all(&text[..k]).is_err() {
+        tell(&rt, "the text could not be written");
     }
 }

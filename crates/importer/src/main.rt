@@ -3,8 +3,6 @@
 
 ghost use Rattle.std.specs.Prelude.{◌≡◌, length};
 
-use libc::{STDERR_FILENO, STDIN_FILENO, STDOUT_FILENO};
-
 // Room for the text, and for one byte more, which tells that it is too long.
 fn text_room() -> [u8; 1048577]
     ensures { 1048577 ≡ length result }
@@ -19,34 +17,29 @@ fn log_room() -> [u8; 2446677]
     [0; 2446677]
 }
 
-fn tell(what: &[u8]) {
-    io::write_all(STDERR_FILENO, b"lensember-import: ");
-    io::write_all(STDERR_FILENO, what);
+fn tell(rt: &impl Eprint, what: &str) {
+    let _ = eprintln!(rt; "lensember-import: {what}");
 }
 
-fn tell_line(line: u64, refusal: u64) {
-    tell(b"line ");
-    io::print_decimal(STDERR_FILENO, line);
-    io::write_all(STDERR_FILENO, b" refused ");
-    io::print_decimal(STDERR_FILENO, refusal);
-    io::write_all(STDERR_FILENO, b"\n");
+fn tell_line(rt: &impl Eprint, line: u64, refusal: u64) {
+    let _ = eprintln!(rt; "lensember-import: line {line} refused {refusal}");
 }
 
-fn main() {
+fn main(rt: HostRuntime) {
     let mut text = text_room();
     let mut log = log_room();
-    let n = io::read_full(STDIN_FILENO, &mut text);
+    let n = streams::read_full(&mut rt.stdin(), &mut text);
     if 1048576 < n {
-        tell(b"the text is longer than 1048576 bytes\n");
+        tell(&rt, "the text is longer than 1048576 bytes");
         return;
     }
     let r = exchange::import(&text[..n], &mut log);
     if r.refusal != 0 {
-        tell_line(r.line, r.refusal);
+        tell_line(&rt, r.line, r.refusal);
         return;
     }
     let k = r.length as usize;
-    if !io::write_all(STDOUT_FILENO, &log[..k]) {
-        tell(b"the log could not be written\n");
+    if rt.write_all(&log[..k]).is_err() {
+        tell(&rt, "the log could not be written");
     }
 }

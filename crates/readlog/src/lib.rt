@@ -7,7 +7,7 @@ ghost use Rattle.records.specs.Calls.{leaves, fresh_of};
 ghost use Rattle.replay.specs.Run.{replay_of};
 ghost use Rattle.readlog.specs.Input.{FromLog};
 
-use libc::{STDERR_FILENO, STDIN_FILENO};
+use std::io::Read;
 
 // The pool is fresh before its replay: a log without an accepted start leaves it so.
 fn replay_fresh(
@@ -23,23 +23,28 @@ fn replay_fresh(
 }
 
 // A line on standard error tells of a refusal.
-fn tell(r: replay::Replayed) {
+fn tell(errors: &impl Eprint, r: replay::Replayed) {
     if r.refusal == 0 {
         return;
     }
-    io::write_all(STDERR_FILENO, b"log refused ");
-    io::print_decimal(STDERR_FILENO, r.refusal);
-    io::write_all(STDERR_FILENO, b" at ");
-    io::print_decimal(STDERR_FILENO, r.position);
-    io::write_all(STDERR_FILENO, b", drawn as it stood\n");
+    let _ = eprintln!(errors;
+        "log refused {} at {}, drawn as it stood",
+        r.refusal, r.position
+    );
 }
 
 // The pool after it: what the fields before a refused one did stands.
-pub fn replay_input(bits: &mut [u64], words: &mut [u32], slots: &mut [u64])
+pub fn replay_input<R: Read, E: Eprint>(
+    input: &mut R,
+    errors: &E,
+    bits: &mut [u64],
+    words: &mut [u32],
+    slots: &mut [u64],
+)
     ensures { FromLog (before bits.old words.old slots.old) (after bits.new words.new slots.new) }
 {
     let mut log = [0u8; 16384];
-    let n = io::read_full(STDIN_FILENO, &mut log);
+    let n = streams::read_full(input, &mut log);
     let r = replay_fresh(bits, words, slots, &log[..n]);
-    tell(r);
+    tell(errors, r);
 }
