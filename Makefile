@@ -51,29 +51,28 @@ override CFLAGS += -std=c99 -pedantic
 INCLUDES = -Iinclude -Itests/model -Itests/inputs -Itests/harness -Ibench
 HEADERS = $(wildcard include/*.h tests/*/*.h bench/*.h)
 
-# The library is proved again when any source or proof of it has changed.
-PROVED = crates.txt $(shell find crates -name '*.rt' -o -name '*.antt')
+# The library is proved again when any source or proof of it has changed. What rt
+# makes lies in the crates' folders out/.
+PROVED = crates.txt \
+	$(shell find crates -name out -prune -o \( -name '*.rt' -o -name '*.antt' \) -print)
 
 all: build/proved $(LIB) $(PROGRAM) build/map build/paint build/import build/export
 
 # What the prover says goes to a file, and to the terminal where it fails. rt runs
 # once at a time: whoever comes next waits.
-prove = @mkdir -p build; echo 'rt $(1): see build/$(notdir $@).log' >&2; \
-	flock build/turn tools/in-memory rt $(1) >build/$(notdir $@).log 2>&1 || \
+prove = @mkdir -p build; echo '$@ by rt: see build/$(notdir $@).log' >&2; \
+	flock build/turn sh -c '$(1)' >build/$(notdir $@).log 2>&1 || \
 	{ cat build/$(notdir $@).log; exit 1; }
 
-# All at once, so that crates which do not wait for each other are proved side by
-# side: what is behind it then finds its crates proved.
-OURS = $(patsubst build/lib%.a,%,$(filter build/lib%.a,$(LIB))) \
-	$(if $(filter build/replay,$(PROGRAM)),replayer) mapper painter importer exporter
-
+# Every crate first, so that crates which do not wait for each other are proved
+# side by side: what is behind it then finds its crates proved.
 build/proved: $(PROVED)
-	$(call prove,check $(OURS))
+	$(call prove,rt all check)
 	touch $@
 
 build/liblensember.a: $(PROVED)
-	$(call prove,staticlib lensember)
-	cp target/staticlib/liblensember.a $@
+	$(call prove,cd crates/lensember_c && rt lib)
+	cp crates/lensember_c/out/liblensember_c.a $@
 
 # The programs are called by what they do, their crates by what they are.
 build/replay: CRATE = replayer
@@ -82,9 +81,11 @@ build/paint: CRATE = painter
 build/import: CRATE = importer
 build/export: CRATE = exporter
 
+# rt builds a program to run it: it is given its crate's sample, and has to print
+# what belongs to that.
 build/replay build/map build/paint build/import build/export: $(PROVED)
-	$(call prove,check $(CRATE))
-	cp target/bin/$(CRATE) $@
+	$(call prove,cd crates/$(CRATE) && rt run <stdin >../../$@.printed && cmp ../../$@.printed stdout)
+	cp crates/$(CRATE)/out/$(CRATE) $@
 
 build/%.o: %.c $(HEADERS) Makefile
 	@mkdir -p $(@D)

@@ -72,19 +72,19 @@ module _ (c : ℕ) (log : List ℕ) where
   by_fields (other_count {k} {p = p} {n = m} e o) (suc n) l h = run_unsuited n k p e (suits_other c m o)
   by_fields (start_field {k} {j} {p} e later) (suc n) l h =
       let (more, inside) = next_inside k j (Start c) e in
-      run_next n c p log k e (suits_own c) ∙ ap (with_event (Started c)) (by_fields later n inside (omega arith))
+      run_next n c p log k e (suits_own c) ∙ ap (with_event (Started c)) (by_fields {k = j} later n inside (omega arith))
   by_fields (reserve_field {k} {j} {p} {n = m} e later) (suc n) l h =
       let (more, inside) = next_inside k j (Reserve m) e in
-      run_next n c p log k e refl ∙ ap (with_event (reserve_event m (reserve_of c p m).answer)) (by_fields later n inside (omega arith))
+      run_next n c p log k e refl ∙ ap (with_event (reserve_event m (reserve_of c p m).answer)) (by_fields {k = j} later n inside (omega arith))
   by_fields (release_field {k} {j} {p} {q} e later) (suc n) l h =
       let (more, inside) = next_inside k j (Release q) e in
-      run_next n c p log k e refl ∙ ap (with_event (release_event q (release_of c p q).answer)) (by_fields later n inside (omega arith))
+      run_next n c p log k e refl ∙ ap (with_event (release_event q (release_of c p q).answer)) (by_fields {k = j} later n inside (omega arith))
   by_fields (resize_field {k} {j} {p} {q} {n = m} e later) (suc n) l h =
       let (more, inside) = next_inside k j (Resize q m) e in
-      run_next n c p log k e refl ∙ ap (with_event (resize_event q m (resize_of c p q m).answer)) (by_fields later n inside (omega arith))
+      run_next n c p log k e refl ∙ ap (with_event (resize_event q m (resize_of c p q m).answer)) (by_fields {k = j} later n inside (omega arith))
   by_fields (end_field {k} {j} {p} e later) (suc n) l h =
       let (more, inside) = next_inside k j End e in
-      run_next n c p log k e refl ∙ ap (with_event Ended) (by_fields later n inside (omega arith))
+      run_next n c p log k e refl ∙ ap (with_event Ended) (by_fields {k = j} later n inside (omega arith))
 
   -- ---- and each run goes by them
 

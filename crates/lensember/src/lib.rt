@@ -1,4 +1,4 @@
-// The calls as C makes them (include/lensember.h): a slice crosses as a pointer and its number of elements, an answer as a plain struct.
+// The calls on lent buffers, each with an answer that is a number or a plain struct: `lensember_c` exports them to C (include/lensember.h).
 // Each call checks what it is lent, and then works by an inner function that needs no check.
 #![tactic(auto)]
 
@@ -79,29 +79,21 @@ fn flat_reserved(r: reserve::Reserved) -> FlatReserved
 }
 
 // Whether lent records are sound: refusal 1 or 2, or 0.
-#[unsafe(no_mangle)]
-pub extern "C" fn lensember_check(c: u64, bits: &[u64], words: &[u32], slots: &[u64]) -> u64
+pub fn lensember_check(c: u64, bits: &[u64], words: &[u32], slots: &[u64]) -> u64
     ensures { result ≡ admit_of c (before bits.now words.now slots.now) }
 {
     admit::admit(c, bits, words, slots)
 }
 
 // Fresh (RULES 5.1): refusal 1, or 0.
-#[unsafe(no_mangle)]
-pub extern "C" fn lensember_fresh(
-    c: u64,
-    bits: &mut [u64],
-    words: &mut [u32],
-    slots: &mut [u64],
-) -> u64
+pub fn lensember_fresh(c: u64, bits: &mut [u64], words: &mut [u32], slots: &mut [u64]) -> u64
     ensures { leaves result (after bits.new words.new slots.new) ≡ fresh_of c (before bits.old words.old slots.old) }
 {
     fresh::fresh(c, bits, words, slots)
 }
 
 // Reserve (RULES 5.2): what was given, or refusal 1, 2, 3 or 4 and nothing is changed.
-#[unsafe(no_mangle)]
-pub extern "C" fn lensember_reserve(
+pub fn lensember_reserve(
     c: u64,
     bits: &mut [u64],
     words: &mut [u32],
@@ -118,8 +110,7 @@ pub extern "C" fn lensember_reserve(
 }
 
 // Release (RULES 5.4): 0, or refusal 1, 2, 5 or 6 and nothing is changed.
-#[unsafe(no_mangle)]
-pub extern "C" fn lensember_release(
+pub fn lensember_release(
     c: u64,
     bits: &mut [u64],
     words: &mut [u32],
@@ -136,8 +127,7 @@ pub extern "C" fn lensember_release(
 }
 
 // Resize (RULES 5.6): where the block is and what was given, kept or moved, or refusal 1, 2, 5, 6, 3 or 4 and nothing is changed.
-#[unsafe(no_mangle)]
-pub extern "C" fn lensember_resize(
+pub fn lensember_resize(
     c: u64,
     bits: &mut [u64],
     words: &mut [u32],
@@ -155,8 +145,7 @@ pub extern "C" fn lensember_resize(
 }
 
 // Sweep (RULES 5.5): the pages gained, or refusal 1 or 2 and nothing is changed.
-#[unsafe(no_mangle)]
-pub extern "C" fn lensember_sweep(
+pub fn lensember_sweep(
     c: u64,
     bits: &mut [u64],
     words: &mut [u32],
@@ -175,8 +164,7 @@ pub extern "C" fn lensember_sweep(
 }
 
 // Block size (RULES 6.2): the size given to the live block at the place, or refusal 1, 2, 5 or 6.
-#[unsafe(no_mangle)]
-pub extern "C" fn lensember_block_size(
+pub fn lensember_block_size(
     c: u64,
     bits: &[u64],
     words: &[u32],
@@ -196,14 +184,7 @@ pub extern "C" fn lensember_block_size(
 }
 
 // Next (RULES 6.3): the live block with the lowest place at or above a place, or refusal 1 or 2.
-#[unsafe(no_mangle)]
-pub extern "C" fn lensember_next(
-    c: u64,
-    bits: &[u64],
-    words: &[u32],
-    slots: &[u64],
-    place: u64,
-) -> next::Next
+pub fn lensember_next(c: u64, bits: &[u64], words: &[u32], slots: &[u64], place: u64) -> next::Next
     ensures { result ≡ next_of c (before bits.now words.now slots.now) place }
 {
     let a = admit::admit(c, bits, words, slots);
@@ -218,8 +199,7 @@ pub extern "C" fn lensember_next(
 }
 
 // Census (RULES 6.4): the count of the live blocks, or refusal 1, 2 or 7 and nothing is written.
-#[unsafe(no_mangle)]
-pub extern "C" fn lensember_census(
+pub fn lensember_census(
     c: u64,
     bits: &[u64],
     words: &[u32],
@@ -239,13 +219,7 @@ pub extern "C" fn lensember_census(
 }
 
 // Totals (RULES 6.5), or refusal 1 or 2.
-#[unsafe(no_mangle)]
-pub extern "C" fn lensember_totals(
-    c: u64,
-    bits: &[u64],
-    words: &[u32],
-    slots: &[u64],
-) -> totals::Sums
+pub fn lensember_totals(c: u64, bits: &[u64], words: &[u32], slots: &[u64]) -> totals::Sums
     ensures { result ≡ totals_of c (before bits.now words.now slots.now) }
 {
     let a = admit::admit(c, bits, words, slots);
@@ -261,8 +235,7 @@ pub extern "C" fn lensember_totals(
 }
 
 // Bytes (RULES 6.6), by the lengths of both arenas: where the part lies in the chosen one. A slice cannot be handed back to C.
-#[unsafe(no_mangle)]
-pub extern "C" fn lensember_bytes(
+pub fn lensember_bytes(
     c: u64,
     bits: &[u64],
     words: &[u32],
@@ -278,8 +251,7 @@ pub extern "C" fn lensember_bytes(
 }
 
 // Replay of a request log (RULES 8).
-#[unsafe(no_mangle)]
-pub extern "C" fn lensember_replay(
+pub fn lensember_replay(
     c: u64,
     bits: &mut [u64],
     words: &mut [u32],
@@ -292,8 +264,7 @@ pub extern "C" fn lensember_replay(
 }
 
 // The same, with its lines (RULES 9.2).
-#[unsafe(no_mangle)]
-pub extern "C" fn lensember_lines(
+pub fn lensember_lines(
     c: u64,
     bits: &mut [u64],
     words: &mut [u32],
@@ -308,8 +279,7 @@ pub extern "C" fn lensember_lines(
 }
 
 // Append (RULES 7.4), the field by its tag and numbers: the new length, or refusal 1, 9 or 7 and nothing is written.
-#[unsafe(no_mangle)]
-pub extern "C" fn lensember_append(
+pub fn lensember_append(
     log: &mut [u8],
     length: u64,
     tag: u64,
@@ -322,16 +292,14 @@ pub extern "C" fn lensember_append(
 }
 
 // Import (RULES 9.6): the length of the log, or refusal 13 or 7 and nothing is written.
-#[unsafe(no_mangle)]
-pub extern "C" fn lensember_import(text: &[u8], log: &mut [u8]) -> exchange::Imported
+pub fn lensember_import(text: &[u8], log: &mut [u8]) -> exchange::Imported
     ensures { leaves result log.new ≡ import_of text.now log.old }
 {
     exchange::import(text, log)
 }
 
 // Export (RULES 9.7): the length of the text, or refusal 8, 9 or 7 and nothing is written.
-#[unsafe(no_mangle)]
-pub extern "C" fn lensember_export(log: &[u8], text: &mut [u8]) -> exchange::Exported
+pub fn lensember_export(log: &[u8], text: &mut [u8]) -> exchange::Exported
     ensures { leaves result text.new ≡ export_of log.now text.old }
 {
     exchange::export(log, text)

@@ -28,7 +28,7 @@ pub loop-p-preserved : goal.loop-p-preserved
 loop-p-preserved c = (
   omega arith,
   walked_on c.loop-p.invariant.1 (omega arith) (λ j. (c.type_inv.slots j).fits)
-      c.page-s.ensures c.if-not-s.false,
+      c.page-s.ensures (not-false _ c.if-not-s.false),
 )
 
 pub returns : goal.returns

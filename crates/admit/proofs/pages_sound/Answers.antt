@@ -18,18 +18,18 @@ pages_64-s-requires c = record {
     word = omega arith;
     slot = omega arith;
     table = c.mask_table-masks.ensures;
-    c = c.behind_table-behinds.ensures;
+    behind = c.behind_table-behinds.ensures;
   };
   ready = c.loop-i.invariant.1.ready;
 }
 
 pub returns-then-not-s : goal.returns-then-not-s
 returns-then-not-s c =
-    blocks_off c.loop-i.invariant.1 (omega arith) c.pages_64-s.ensures c.if-not-s.true
+    blocks_off c.loop-i.invariant.1 (omega arith) c.pages_64-s.ensures (not-true _ c.if-not-s.true)
 
 pub loop-i-preserved : goal.loop-i-preserved
 loop-i-preserved c =
-    (omega arith, blocks_on c.loop-i.invariant.1 (omega arith) c.pages_64-s.ensures c.if-not-s.false)
+    (omega arith, blocks_on c.loop-i.invariant.1 (omega arith) c.pages_64-s.ensures (not-false _ c.if-not-s.false))
 
 pub returns : goal.returns
 returns c = blocks_done c.loop-i.invariant.1 (omega arith)

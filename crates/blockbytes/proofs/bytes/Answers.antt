@@ -13,3 +13,9 @@ returns-then-ear-eq0 c = bytes_left _ _ _ _ _ _ c.part_of-x.ensures c.if-ear-eq0
 
 pub returns : goal.returns
 returns c = bytes_right _ _ _ _ _ _ c.part_of-x.ensures c.if-ear-eq0.false
+
+pub slice_bounds-result-end : goal.slice_bounds-result-end
+slice_bounds-result-end c = ends_left _ _ _ _ _ _ c.part_of-x.ensures c.if-ear-eq0.true
+
+pub slice_bounds-result-end-2 : goal.slice_bounds-result-end-2
+slice_bounds-result-end-2 c = ends_right _ _ _ _ _ _ c.part_of-x.ensures c.if-ear-eq0.false

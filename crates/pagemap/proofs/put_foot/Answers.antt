@@ -14,9 +14,9 @@ put_filled-requires-else-svg c = omega (arith, ap foot_room c.if-svg.false)
 pub returns-then-svg : goal.returns-then-svg
 unfolding foot_of
 returns-then-svg c =
-    let e = c.if-svg.true in let both = rw e (c.put_filled.ensures.appends, omega arith) in record { text = both.0; room = both.1 }
+    let e = c.if-svg.true in record { text = rw e (c.put_filled.ensures.appends); room = rw e (omega arith) }
 
 pub returns-else-svg : goal.returns-else-svg
 unfolding foot_of
 returns-else-svg c =
-    let e = c.if-svg.false in let both = rw e (c.put_filled-else-svg.ensures.appends, omega arith) in record { text = both.0; room = both.1 }
+    let e = c.if-svg.false in record { text = rw e (c.put_filled-else-svg.ensures.appends); room = rw e (omega arith) }

@@ -12,9 +12,9 @@ put_filled-requires c = omega (arith, ap head_room c.if-svg.true)
 pub returns-then-svg : goal.returns-then-svg
 unfolding head_of
 returns-then-svg c =
-    let e = c.if-svg.true in let both = rw e (c.put_filled.ensures.appends, omega arith) in record { text = both.0; room = both.1 }
+    let e = c.if-svg.true in record { text = rw e (c.put_filled.ensures.appends); room = rw e (omega arith) }
 
 pub returns : goal.returns
 unfolding head_of
 returns c =
-    let both = rw c.if-svg.false (appends_none, omega arith) in record { text = both.0; room = both.1 }
+    record { text = rw c.if-svg.false (appends_none); room = rw c.if-svg.false (omega arith) }

@@ -11,7 +11,7 @@ put_svg_page-requires c =
 
 pub returns-then-svg : goal.returns-then-svg
 returns-then-svg c =
-    let both = rw c.if-svg.true (c.put_svg_page.ensures.text, c.put_svg_page.ensures.room) in record { text = both.0; room = both.1 }
+    record { text = rw c.if-svg.true c.put_svg_page.ensures.text; room = rw c.if-svg.true c.put_svg_page.ensures.room }
 
 pub put_filled-requires : goal.put_filled-requires
 put_filled-requires c =
@@ -21,4 +21,4 @@ put_filled-requires c =
 pub returns : goal.returns
 unfolding text_page
 returns c =
-    let both = rw c.if-svg.false (c.put_filled.ensures.appends, omega arith) in record { text = both.0; room = both.1 }
+    record { text = rw c.if-svg.false (c.put_filled.ensures.appends); room = rw c.if-svg.false (omega arith) }

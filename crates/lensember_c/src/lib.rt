@@ -1,0 +1,229 @@
+// The calls as C makes them (include/lensember.h): a slice crosses as a pointer and its number of elements, an answer as a plain struct.
+// Each is the call of its name in `lensember`, with the same clauses.
+#![tactic(auto)]
+
+ghost use Rattle.std.specs.Prelude.{◌≡◌};
+ghost use Rattle.records.specs.Lent.{before, after};
+ghost use Rattle.records.specs.Calls.{admit_of, leaves, fresh_of};
+ghost use Rattle.reserve.specs.Reserve.{reserve_of};
+ghost use Rattle.sweep.specs.Sweep.{sweep_of};
+ghost use Rattle.release.specs.Release.{release_of, size_of};
+ghost use Rattle.resize.specs.Resize.{resize_of};
+ghost use Rattle.next.specs.Next.{next_of};
+ghost use Rattle.census.specs.Census.{census_of};
+ghost use Rattle.totals.specs.Totals.{totals_of};
+ghost use Rattle.blockbytes.specs.Bytes.{part_of};
+ghost use Rattle.replay.specs.Run.{replay_of};
+ghost use Rattle.lines.specs.Lines.{printed_of};
+ghost use Rattle.writer.specs.Append.{append_as};
+ghost use Rattle.exchange.specs.Exchange.{import_of, export_of};
+ghost use Rattle.lensember.specs.Flat.{reserved_of};
+
+// Whether lent records are sound: refusal 1 or 2, or 0.
+#[unsafe(no_mangle)]
+pub extern "C" fn lensember_check(c: u64, bits: &[u64], words: &[u32], slots: &[u64]) -> u64
+    ensures { result ≡ admit_of c (before bits.now words.now slots.now) }
+{
+    lensember::lensember_check(c, bits, words, slots)
+}
+
+// Fresh (RULES 5.1): refusal 1, or 0.
+#[unsafe(no_mangle)]
+pub extern "C" fn lensember_fresh(
+    c: u64,
+    bits: &mut [u64],
+    words: &mut [u32],
+    slots: &mut [u64],
+) -> u64
+    ensures { leaves result (after bits.new words.new slots.new) ≡ fresh_of c (before bits.old words.old slots.old) }
+{
+    lensember::lensember_fresh(c, bits, words, slots)
+}
+
+// Reserve (RULES 5.2): what was given, or refusal 1, 2, 3 or 4 and nothing is changed.
+#[unsafe(no_mangle)]
+pub extern "C" fn lensember_reserve(
+    c: u64,
+    bits: &mut [u64],
+    words: &mut [u32],
+    slots: &mut [u64],
+    size: u64,
+) -> lensember::FlatReserved
+    ensures { leaves result (after bits.new words.new slots.new) ≡ reserved_of (reserve_of c (before bits.old words.old slots.old) size) }
+{
+    lensember::lensember_reserve(c, bits, words, slots, size)
+}
+
+// Release (RULES 5.4): 0, or refusal 1, 2, 5 or 6 and nothing is changed.
+#[unsafe(no_mangle)]
+pub extern "C" fn lensember_release(
+    c: u64,
+    bits: &mut [u64],
+    words: &mut [u32],
+    slots: &mut [u64],
+    place: u64,
+) -> u64
+    ensures { leaves result (after bits.new words.new slots.new) ≡ release_of c (before bits.old words.old slots.old) place }
+{
+    lensember::lensember_release(c, bits, words, slots, place)
+}
+
+// Resize (RULES 5.6): where the block is and what was given, kept or moved, or refusal 1, 2, 5, 6, 3 or 4 and nothing is changed.
+#[unsafe(no_mangle)]
+pub extern "C" fn lensember_resize(
+    c: u64,
+    bits: &mut [u64],
+    words: &mut [u32],
+    slots: &mut [u64],
+    place: u64,
+    size: u64,
+) -> resize::Resized
+    ensures { leaves result (after bits.new words.new slots.new) ≡ resize_of c (before bits.old words.old slots.old) place size }
+{
+    lensember::lensember_resize(c, bits, words, slots, place, size)
+}
+
+// Sweep (RULES 5.5): the pages gained, or refusal 1 or 2 and nothing is changed.
+#[unsafe(no_mangle)]
+pub extern "C" fn lensember_sweep(
+    c: u64,
+    bits: &mut [u64],
+    words: &mut [u32],
+    slots: &mut [u64],
+) -> sweep::Swept
+    ensures { leaves result (after bits.new words.new slots.new) ≡ sweep_of c (before bits.old words.old slots.old) }
+{
+    lensember::lensember_sweep(c, bits, words, slots)
+}
+
+// Block size (RULES 6.2): the size given to the live block at the place, or refusal 1, 2, 5 or 6.
+#[unsafe(no_mangle)]
+pub extern "C" fn lensember_block_size(
+    c: u64,
+    bits: &[u64],
+    words: &[u32],
+    slots: &[u64],
+    place: u64,
+) -> release::Sized
+    ensures { result ≡ size_of c (before bits.now words.now slots.now) place }
+{
+    lensember::lensember_block_size(c, bits, words, slots, place)
+}
+
+// Next (RULES 6.3): the live block with the lowest place at or above a place, or refusal 1 or 2.
+#[unsafe(no_mangle)]
+pub extern "C" fn lensember_next(
+    c: u64,
+    bits: &[u64],
+    words: &[u32],
+    slots: &[u64],
+    place: u64,
+) -> next::Next
+    ensures { result ≡ next_of c (before bits.now words.now slots.now) place }
+{
+    lensember::lensember_next(c, bits, words, slots, place)
+}
+
+// Census (RULES 6.4): the count of the live blocks, or refusal 1, 2 or 7 and nothing is written.
+#[unsafe(no_mangle)]
+pub extern "C" fn lensember_census(
+    c: u64,
+    bits: &[u64],
+    words: &[u32],
+    slots: &[u64],
+    room: &mut [u64],
+) -> census::Counted
+    ensures { leaves result room.new ≡ census_of c (before bits.now words.now slots.now) room.old }
+{
+    lensember::lensember_census(c, bits, words, slots, room)
+}
+
+// Totals (RULES 6.5), or refusal 1 or 2.
+#[unsafe(no_mangle)]
+pub extern "C" fn lensember_totals(
+    c: u64,
+    bits: &[u64],
+    words: &[u32],
+    slots: &[u64],
+) -> totals::Sums
+    ensures { result ≡ totals_of c (before bits.now words.now slots.now) }
+{
+    lensember::lensember_totals(c, bits, words, slots)
+}
+
+// Bytes (RULES 6.6), by the lengths of both arenas: where the part lies in the chosen one. A slice cannot be handed back to C.
+#[unsafe(no_mangle)]
+pub extern "C" fn lensember_bytes(
+    c: u64,
+    bits: &[u64],
+    words: &[u32],
+    slots: &[u64],
+    ear: u64,
+    place: u64,
+    nleft: usize,
+    nright: usize,
+) -> blockbytes::Part
+    ensures { result ≡ part_of ear c (before bits.now words.now slots.now) place nleft nright }
+{
+    lensember::lensember_bytes(c, bits, words, slots, ear, place, nleft, nright)
+}
+
+// Replay of a request log (RULES 8).
+#[unsafe(no_mangle)]
+pub extern "C" fn lensember_replay(
+    c: u64,
+    bits: &mut [u64],
+    words: &mut [u32],
+    slots: &mut [u64],
+    log: &[u8],
+) -> replay::Replayed
+    ensures { leaves result (after bits.new words.new slots.new) ≡ replay_of c (before bits.old words.old slots.old) log.now }
+{
+    lensember::lensember_replay(c, bits, words, slots, log)
+}
+
+// The same, with its lines (RULES 9.2).
+#[unsafe(no_mangle)]
+pub extern "C" fn lensember_lines(
+    c: u64,
+    bits: &mut [u64],
+    words: &mut [u32],
+    slots: &mut [u64],
+    log: &[u8],
+    out: &mut [u8],
+) -> lines::Printed
+    ensures { leaves result (after bits.new words.new slots.new, out.new)
+        ≡ printed_of c (before bits.old words.old slots.old) log.now out.old }
+{
+    lensember::lensember_lines(c, bits, words, slots, log, out)
+}
+
+// Append (RULES 7.4), the field by its tag and numbers: the new length, or refusal 1, 9 or 7 and nothing is written.
+#[unsafe(no_mangle)]
+pub extern "C" fn lensember_append(
+    log: &mut [u8],
+    length: u64,
+    tag: u64,
+    first: u64,
+    second: u64,
+) -> writer::Appended
+    ensures { leaves result log.new ≡ append_as log.old length tag first second }
+{
+    lensember::lensember_append(log, length, tag, first, second)
+}
+
+// Import (RULES 9.6): the length of the log, or refusal 13 or 7 and nothing is written.
+#[unsafe(no_mangle)]
+pub extern "C" fn lensember_import(text: &[u8], log: &mut [u8]) -> exchange::Imported
+    ensures { leaves result log.new ≡ import_of text.now log.old }
+{
+    lensember::lensember_import(text, log)
+}
+
+// Export (RULES 9.7): the length of the text, or refusal 8, 9 or 7 and nothing is written.
+#[unsafe(no_mangle)]
+pub extern "C" fn lensember_export(log: &[u8], text: &mut [u8]) -> exchange::Exported
+    ensures { leaves result text.new ≡ export_of log.now text.old }
+{
+    lensember::lensember_export(log, text)
+}
