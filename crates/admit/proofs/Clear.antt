@@ -13,7 +13,7 @@ use lib.Bits.{bit_or, bit_and, and_high, and_zero_r}
 use lib.Pow.{pow_pos, pow_mono, shr_mod}
 use borrow.Author.Tests.{eq-eqb, ne_eqb}
 use Rattle.classes.specs.declared.Row.{Row}
-use Rattle.classes.specs.Classes.{row_of, rows, row_at, slots, pages}
+use Rattle.classes.specs.Classes.{row_of, rows, row_at, slots}
 use Rattle.classes.proofs.ClassLaws.{row_facts}
 use Rattle.records.specs.Kinds.{behind}
 use Rattle.records.specs.Sound.{all}

@@ -1,6 +1,6 @@
 -- A row of bits in 64-bit words: bit i of the row is bit i % 64 of word i / 64. Page bits and slot bits are both such rows.
 -- Assumes nothing.
-use Rattle.std.specs.Prelude.{◌≡◌, ℕ, zero, suc, ◌+◌, ◌-◌, ◌/◌, ◌%◌, ◌^◌, ◌<◌, ◌≤◌, Bool, true, false, cond, List, set, ◌==◌, bit_and, bit_or, slice_index, slice_set}
+use Rattle.std.specs.Prelude.{◌≡◌, ℕ, zero, suc, ◌+◌, ◌-◌, ◌/◌, ◌%◌, ◌^◌, ◌<◌, ◌≤◌, Bool, true, false, cond, List, ◌==◌, bit_and, bit_or, slice_index, slice_set}
 
 -- a bit's value
 abbrev pub digit : Bool → ℕ

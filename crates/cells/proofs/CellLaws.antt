@@ -9,7 +9,7 @@ use borrow.Author.Tests.{lt-ltb, le-ltb}
 use Rattle.bitrow.specs.Row.{count_bits}
 use Rattle.bitrow.proofs.Counts.{count_le}
 use Rattle.classes.specs.declared.Row.{Row}
-use Rattle.classes.specs.Classes.{row_at, size, slots}
+use Rattle.classes.specs.Classes.{row_at, slots}
 use Rattle.classes.proofs.ClassLaws.{row_facts, size_read, slots_read}
 use Rattle.records.specs.declared.Kind.{Kind}
 use Rattle.records.specs.Pool.{Pool, kind_at}

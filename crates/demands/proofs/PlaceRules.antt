@@ -16,7 +16,7 @@ use Rattle.records.proofs.KindLaws.{length_zeros}
 use Rattle.records.proofs.RunLaws.{sound_runs}
 use Rattle.records.proofs.AdmitLaws.{shaped_lengths}
 use Rattle.gaps.proofs.Answers.{Around, free_around}
-use Rattle.blocks.specs.Blocks.{Block, block, slot_block, run_block, IsSlot, IsLarge, slot, live}
+use Rattle.blocks.specs.Blocks.{Block, block, slot_block, run_block, IsSlot, IsLarge, live}
 use Rattle.blocks.specs.Stores.{put_run, put_slot, Good, Loses}
 use Rattle.blocks.proofs.ApartLaws.{live_is}
 use Rattle.blocks.proofs.StoreLaws.{run_bits, slot_kinds, slot_same}

@@ -27,7 +27,6 @@ use Rattle.release.specs.Release.{spot, released, release_of, size_of}
 use Rattle.release.proofs.GiveLaws as places
 use Rattle.release.proofs.MeanLaws.{release_by, size_by}
 use Rattle.resize.specs.declared.Change.{Change}
-use Rattle.resize.specs.declared.Change.TheVariants as changes
 use Rattle.resize.specs.declared.Resized.{Resized}
 use Rattle.resize.specs.Resize.{FreeBehind, can_grow, fit_pages, change, recut, kept, moving, done, resize, resize_of}
 use Rattle.resize.specs.Resize as resizing

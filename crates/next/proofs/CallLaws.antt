@@ -2,7 +2,7 @@
 use mathlib.Core.Path.{◌≡◌, ap, ap₂, ◌∙◌, subst}
 use Prim.Native.Nat.{ℕ, suc, ◌+◌, ◌-◌, ◌/◌, ◌<◌}
 use Rattle.classes.specs.declared.Row.{Row}
-use Rattle.classes.specs.Classes.{row_at, size, slots}
+use Rattle.classes.specs.Classes.{row_at, size}
 use Rattle.classes.proofs.ClassLaws.{size_read, slots_read, cut_some}
 use Rattle.records.specs.declared.Kind.{Kind}
 use Rattle.records.specs.declared.Kind.TheVariants.{Edge, Free, Damaged, Large, Class, Inner}

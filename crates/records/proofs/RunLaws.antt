@@ -1,6 +1,6 @@
 -- The runs of sound records lie apart, inside their chunks and off page 0. Assumes nothing.
 use mathlib.Core.Path.{◌≡◌, refl, sym, ap, ◌∙◌, subst, subst⁻¹}
-use mathlib.Core.Logic.{◌≢◌, ◌⊎◌, ⊎_elim, by_cases}
+use mathlib.Core.Logic.{◌≢◌, ⊎_elim, by_cases}
 use mathlib.Core.Bool.{Bool, true, false, not, false≢true}
 use mathlib.Core.Option.{some, none-ne-some, some-injective}
 use mathlib.Core.List.{List, []}

@@ -10,7 +10,7 @@ use lib.Dec.{ltb}
 use lib.ListN.{length, get_or}
 use Rattle.refusals.specs.Refusals.{no_block, free_slot}
 use Rattle.bitrow.specs.Row.{is_set}
-use Rattle.classes.specs.Classes.{size, slots}
+use Rattle.classes.specs.Classes.{size}
 use Rattle.classes.proofs.ClassLaws.{Cut}
 use Rattle.records.specs.declared.Kind.{Kind}
 use Rattle.records.specs.declared.Kind.TheVariants.{Edge, Free, Damaged, Large, Class, Inner}

@@ -1,15 +1,13 @@
 -- The answer of a reserve, and the call behind the check, as the code makes them. Assumes nothing.
 use mathlib.Core.Path.{◌≡◌, refl, sym, ap, ap₂, ◌∙◌, subst}
 use mathlib.Core.Bool.{false}
-use mathlib.Core.List.{[], ◌∷◌}
 use mathlib.Core.Logic.{◌≢◌}
-use denote.Enum.Declared.{tag_of}
 use Prim.Native.Nat.{ℕ, suc, ◌+◌, ◌*◌, ◌%◌, ◌≤◌, ◌<◌}
 use native.Mathlib.Nat.{mul-le-mul}
 use native.Mathlib.Omega.{arith}
 use lib.Dec.{eqb}
 use Rattle.refusals.specs.Refusals.{no_room}
-use Rattle.refusals.proofs.CallLaws.{refused, served}
+use Rattle.refusals.proofs.CallLaws.{served}
 use Rattle.classes.specs.Classes.{size}
 use Rattle.classes.proofs.ClassLaws.{row_facts}
 use Rattle.records.specs.Pool.{Pool}
@@ -23,7 +21,6 @@ use Rattle.reserve.specs.declared.Reserved.{Reserved}
 use Rattle.reserve.specs.Reserve.{plan, is_full, perform, slot_given, answer, attempt, serve, reserve_of}
 use Rattle.reserve.specs.Reserve as reserve
 use Rattle.reserve.specs.Plans.{PlanOk, PlanLow, PlanSize}
-use Rattle.reserve.specs.contracts.Plan.{the_type}
 use Rattle.reserve.proofs.PlanLaws.{plan_ok}
 use Rattle.reserve.proofs.StoreForms.{slot_few}
 

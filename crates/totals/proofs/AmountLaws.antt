@@ -9,7 +9,6 @@ use lib.Dec.{eqb}
 use lib.ListN.{length, length-append}
 use borrow.Author.Tests.{eq-eqb, ne_eqb}
 use mathlib.Core.Logic.{◌≢◌}
-use denote.Enum.Declared.{tag_of}
 use Rattle.bitrow.specs.Row.{digit, bit_at, is_set, count_bits}
 use Rattle.bitrow.proofs.Rows.{bit_at_le}
 use Rattle.bitrow.proofs.Counts.{count_le}
@@ -21,7 +20,6 @@ use Rattle.records.specs.declared.Kind.TheVariants.{Edge, Free, Damaged, Large, 
 use Rattle.records.specs.Kinds.{behind, span_of}
 use Rattle.records.specs.Pool.{Pool, kind_at, slot_at}
 use Rattle.records.specs.Calls.{admit_of}
-use Rattle.records.specs.contracts.Kind.{the_type}
 use Rattle.records.proofs.KindLaws.{Bare}
 use Rattle.records.proofs.RunLaws.{class_at_low, large_at_low}
 use Rattle.blocks.specs.Blocks.{Block, slot_block, flat, when, blocks_at, page_blocks, live, Rising, stop, next}

@@ -2,10 +2,8 @@
 use mathlib.Core.Path.{◌∙◌, sym}
 use mathlib.Core.Bool.{true, false}
 use native.Mathlib.Omega.{arith}
-use borrow.Author.Tests.{not-true, not-false}
 use Rattle.records.proofs.AdmitLaws.{shaped_lengths, admit_unfit}
 use Rattle.admit.proofs.PageLaws.{admit_says}
-use borrow.Author.Rules.{rules}
 use Rattle.admit.proofs.admit.Goals as goal
 
 pub returns-then-not-is_shaped : goal.returns-then-not-is_shaped

@@ -1,9 +1,7 @@
 -- `admit::behind_table` meets its contract. Assumes nothing.
 use mathlib.Core.Path.{refl}
-use Prim.Native.Nat.{◌≤◌, ◌-◌}
 use native.Mathlib.Omega.{arith}
-use borrow.Author.Rules.{rules}
-use Rattle.admit.proofs.Clear.{row_some, BehindUp, up_start, up_on, up_done}
+use Rattle.admit.proofs.Clear.{row_some, up_start, up_on, up_done}
 use Rattle.admit.proofs.behind_table.Goals as goal
 
 pub loop-k-init : goal.loop-k-init

@@ -1,9 +1,6 @@
 -- `admit::free_64` meets its contract. Assumes nothing.
-use Rattle.records.specs.Pool.{pool}
-use Prim.Native.Nat.{◌≤◌, ◌-◌}
 use native.Mathlib.Omega.{arith}
-use borrow.Author.Rules.{rules}
-use Rattle.admit.proofs.PageLaws.{Freed, freed_start, freed_on, freed_done}
+use Rattle.admit.proofs.PageLaws.{freed_start, freed_on, freed_done}
 use Rattle.admit.proofs.free_64.Goals as goal
 
 pub loop-p-init : goal.loop-p-init

@@ -1,10 +1,7 @@
 -- `admit::mixed_64` meets its contract. Assumes nothing.
 use Rattle.records.specs.Pool.{pool}
 use Prim.Native.Nat.{◌≤◌, ◌-◌}
-use native.Mathlib.Omega.{arith}
-use borrow.Author.Rules.{rules}
-use borrow.Author.Tests.{not-true, not-false}
-use Rattle.admit.proofs.PageLaws.{Walked, walked_start, walked_on, walked_off, walked_done, edge_off}
+use Rattle.admit.proofs.PageLaws.{Walked}
 use Rattle.admit.proofs.mixed_64.Given as goal
 
 abbrev pub invariant-loop-p : goal.invariant-loop-p

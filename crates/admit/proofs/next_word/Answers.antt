@@ -1,6 +1,5 @@
 -- `admit::next_word` meets its contract. Assumes nothing.
 use Rattle.admit.proofs.Steps.{after_zero, after_more}
-use borrow.Author.Rules.{rules}
 use Rattle.admit.proofs.next_word.Goals as goal
 
 pub returns-then-due-eq0 : goal.returns-then-due-eq0

@@ -1,8 +1,6 @@
 -- `admit::page` meets its contract. Assumes nothing.
 use native.Mathlib.Omega.{arith}
-use borrow.Author.Tests.{not-true, not-false}
 use Rattle.admit.proofs.Steps.{bit_is, no_free_run, no_free_word, no_inner, no_run, is_free, is_inner_lem, is_class, is_large}
-use borrow.Author.Rules.{rules}
 use Rattle.admit.proofs.page.Goals as goal
 
 pub returns-then-not-taken : goal.returns-then-not-taken

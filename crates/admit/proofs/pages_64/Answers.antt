@@ -1,6 +1,5 @@
 -- `admit::pages_64` meets its contract. Assumes nothing.
 use Rattle.admit.proofs.PageLaws.{freed_as}
-use borrow.Author.Rules.{rules}
 use Rattle.admit.proofs.pages_64.Goals as goal
 
 pub returns-then-bits-i-eq0 : goal.returns-then-bits-i-eq0

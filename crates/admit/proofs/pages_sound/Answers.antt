@@ -1,10 +1,7 @@
 -- `admit::pages_sound` meets its contract. Assumes nothing.
-use Rattle.records.specs.Pool.{pool}
-use Prim.Native.Nat.{◌≤◌, ◌-◌}
 use native.Mathlib.Omega.{arith}
-use borrow.Author.Rules.{rules}
 use borrow.Author.Tests.{not-true, not-false}
-use Rattle.admit.proofs.PageLaws.{Blocks, blocks_start, blocks_on, blocks_off, blocks_done}
+use Rattle.admit.proofs.PageLaws.{blocks_start, blocks_on, blocks_off, blocks_done}
 use Rattle.admit.proofs.pages_sound.Goals as goal
 
 pub loop-i-init : goal.loop-i-init

@@ -1,14 +1,10 @@
 -- `admit::stray_slot` meets its contract. Assumes nothing.
-use borrow.Author.Rules.{rules}
-use mathlib.Core.Path.{◌≡◌, refl}
+use mathlib.Core.Path.{◌≡◌}
 use Prim.Native.Nat.{◌≤◌, ◌-◌, ◌*◌}
-use native.Mathlib.Omega.{arith}
 use lib.Dec.{eqb}
 use Rattle.classes.specs.Classes.{slots}
 use Rattle.records.specs.Sound.{all}
 use Rattle.records.specs.Slots.{word_clear}
-use Rattle.records.proofs.SlotLaws.{all_none, slots_done}
-use Rattle.admit.proofs.Clear.{stray_turn}
 use Rattle.admit.proofs.stray_slot.Given as goal
 
 abbrev pub invariant-loop-j : goal.invariant-loop-j

@@ -1,6 +1,6 @@
 -- `bitrow::count_bits` meets its contract. The loop's invariant: the sum and the count from i on make the whole count.
 -- Assumes nothing.
-use Rattle.std.proofs.Common.{◌≡◌, ℕ, ◌+◌, ◌-◌, ◌/◌, ◌≤◌, List, get_or, sym, refl, ap, ◌∙◌, zero-add, arith, rules}
+use Rattle.std.proofs.Common.{◌≡◌, ℕ, ◌+◌, ◌-◌, ◌/◌, ◌≤◌, List, get_or, sym, refl, ap, ◌∙◌, zero-add, arith}
 use lib.Bits.{bit_and}
 use lib.Count.{ones}
 use Rattle.bitrow.specs.Row.{count_bits}

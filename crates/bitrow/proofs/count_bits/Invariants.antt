@@ -1,10 +1,7 @@
 -- `bitrow::count_bits` meets its contract. The loop's invariant: the sum and the count from i on make the whole count.
 -- Assumes nothing.
-use Rattle.std.proofs.Common.{◌≡◌, ℕ, ◌+◌, ◌-◌, ◌/◌, ◌≤◌, List, get_or, sym, refl, ap, ◌∙◌, zero-add, arith, rules}
-use lib.Bits.{bit_and}
-use lib.Count.{ones}
+use Rattle.std.proofs.Common.{◌≡◌, ◌+◌, ◌-◌, ◌≤◌}
 use Rattle.bitrow.specs.Row.{count_bits}
-use Rattle.bitrow.proofs.Counts.{count_none, count_le, count_word, count_turn}
 use Rattle.bitrow.proofs.count_bits.Given as goal
 
 abbrev pub invariant-loop-i : goal.invariant-loop-i

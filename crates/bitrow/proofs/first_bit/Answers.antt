@@ -1,6 +1,5 @@
 -- `bitrow::first_bit` meets its contract.
 -- Assumes nothing.
-use Rattle.std.proofs.Common.{rules}
 use Rattle.bitrow.proofs.first_bit.Goals as goal
 
 pub returns-then-v : goal.returns-then-v

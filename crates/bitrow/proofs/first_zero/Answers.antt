@@ -1,6 +1,6 @@
 -- `bitrow::first_zero` meets its contract: the wrapped sum has as many zeros at its low end as the word has ones.
 -- Assumes nothing.
-use Rattle.std.proofs.Common.{◌+◌, sym, ap, ◌∙◌, subst, arith, rules}
+use Rattle.std.proofs.Common.{◌+◌, sym, ap, ◌∙◌, subst, arith}
 use lib.Count.{count_trailing_zeros}
 use Rattle.bitrow.specs.Row.{Lowest}
 use Rattle.bitrow.proofs.Words.{trailing_lowest, trailing_mod}

@@ -1,6 +1,6 @@
 -- `bitrow::is_set` meets its contract: the code reads as the definition.
 -- Assumes nothing.
-use Rattle.std.proofs.Common.{refl, rules}
+use Rattle.std.proofs.Common.{refl}
 use Rattle.bitrow.specs.Row.{bit, bit_at, is_set}
 use Rattle.bitrow.proofs.is_set.Goals as goal
 

@@ -1,6 +1,6 @@
 -- `bitrow::mask` meets its contract.
 -- Assumes nothing.
-use Rattle.std.proofs.Common.{arith, rules}
+use Rattle.std.proofs.Common.{arith}
 use Rattle.bitrow.proofs.Masks.{mask_value}
 use Rattle.bitrow.proofs.mask.Goals as goal
 

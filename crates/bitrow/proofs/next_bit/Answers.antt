@@ -1,9 +1,9 @@
 -- `bitrow::next_bit` meets its contract. The loop's invariant: the search from q on gives the whole answer, which is `to` once q is behind it.
 -- Assumes nothing.
-use Rattle.std.proofs.Common.{◌≡◌, ◌+◌, ◌-◌, ◌<◌, sym, ◌∙◌, arith, rules}
-use Rattle.bitrow.specs.Row.{digit, next_bit}
+use Rattle.std.proofs.Common.{sym, ◌∙◌, arith}
+use Rattle.bitrow.specs.Row.{digit}
 use Rattle.bitrow.proofs.Words.{digit_lt}
-use Rattle.bitrow.proofs.Rows.{next_from, next_from_lem, next_end, next_inside, next_passed}
+use Rattle.bitrow.proofs.Rows.{next_from_lem, next_end, next_inside, next_passed}
 use Rattle.bitrow.proofs.next_bit.Goals as goal
 
 pub loop-q-init : goal.loop-q-init

@@ -1,9 +1,8 @@
 -- `bitrow::next_bit` meets its contract. The loop's invariant: the search from q on gives the whole answer, which is `to` once q is behind it.
 -- Assumes nothing.
-use Rattle.std.proofs.Common.{◌≡◌, ◌+◌, ◌-◌, ◌<◌, sym, ◌∙◌, arith, rules}
+use Rattle.std.proofs.Common.{◌≡◌, ◌+◌, ◌-◌, ◌<◌}
 use Rattle.bitrow.specs.Row.{digit, next_bit}
-use Rattle.bitrow.proofs.Words.{digit_lt}
-use Rattle.bitrow.proofs.Rows.{next_from, next_from_lem, next_end, next_inside, next_passed}
+use Rattle.bitrow.proofs.Rows.{next_from}
 use Rattle.bitrow.proofs.next_bit.Given as goal
 
 abbrev pub invariant-loop-q : goal.invariant-loop-q

@@ -1,7 +1,6 @@
 -- `bitrow::put_bit` meets its contract: one place is a part of one word.
 -- Assumes nothing.
 use Rattle.bitrow.specs.Row.{put_bits}
-use Rattle.std.proofs.Common.{rules}
 use Rattle.bitrow.proofs.put_bit.Goals as goal
 
 pub returns : goal.returns

@@ -1,6 +1,6 @@
 -- `bitrow::put_bits` meets its contract. The loop's invariant: the places from i on, changed too, make the whole change.
 -- Assumes nothing.
-use Rattle.std.proofs.Common.{◌≡◌, ◌+◌, ◌-◌, ◌≤◌, length, sym, refl, ap, ◌∙◌, arith, rules}
+use Rattle.std.proofs.Common.{◌+◌, length, sym, refl, ap, ◌∙◌, arith}
 use Rattle.bitrow.specs.Row.{digit, put_bits}
 use Rattle.bitrow.proofs.Marks.{put_bits_none, length_put_bits}
 use Rattle.bitrow.proofs.Ext.{put_turn}

@@ -1,6 +1,6 @@
 -- `bitrow::put_in_word` meets its contract: a word changed by a mask has the bits that the definition gives it.
 -- Assumes nothing.
-use Rattle.std.proofs.Common.{◌/◌, get_or, set, ap, ◌∙◌, arith, rules}
+use Rattle.std.proofs.Common.{◌/◌, get_or, set, ap, ◌∙◌, arith}
 use Rattle.bitrow.specs.Row.{digit}
 use Rattle.bitrow.specs.Mask.{with_mask}
 use Rattle.bitrow.proofs.Words.{digit_lt}

@@ -1,5 +1,5 @@
 -- `bitrow::without_lowest` meets its contract. Assumes nothing.
-use Rattle.std.proofs.Common.{arith, rules}
+use Rattle.std.proofs.Common.{arith}
 use Rattle.bitrow.proofs.Words.{digit_lt}
 use Rattle.bitrow.proofs.Lows.{without_lowest}
 use Rattle.bitrow.proofs.without_lowest.Goals as goal

@@ -1,7 +1,6 @@
 -- `bytes::bytes` meets its contract. Assumes nothing.
 use Prim.Native.Nat.{◌^◌}
 use native.Mathlib.Omega.{arith}
-use borrow.Author.Rules.{rules}
 use Rattle.blockbytes.proofs.PartLaws.{ends_left, ends_right, ends_low, bytes_left, bytes_right}
 use Rattle.blockbytes.proofs.bytes.Goals as goal
 

@@ -1,5 +1,4 @@
 -- `bytes::bytes_refusal` meets its contract. Assumes nothing.
-use borrow.Author.Rules.{rules}
 use Rattle.blockbytes.proofs.PartLaws.{refusal_as}
 use Rattle.blockbytes.proofs.bytes_refusal.Goals as goal
 

@@ -1,5 +1,4 @@
 -- `bytes::is_chunks` meets its contract. Assumes nothing.
-use borrow.Author.Rules.{rules}
 use Rattle.blockbytes.proofs.PartLaws.{chunks_none, chunks_as}
 use Rattle.blockbytes.proofs.is_chunks.Goals as goal
 

@@ -1,6 +1,6 @@
 -- `blocks::class_words` meets its contract. Assumes nothing.
-use Rattle.std.proofs.Common.{◌-◌, ◌≤◌, refl, ◌∙◌, arith, length-set, rules}
-use Rattle.blocks.proofs.StoreForms.{Written, written_none, written_on, written_all, run_pages_lem}
+use Rattle.std.proofs.Common.{refl, ◌∙◌, arith, length-set}
+use Rattle.blocks.proofs.StoreForms.{written_none, written_on, written_all, run_pages_lem}
 use Rattle.blocks.proofs.class_words.Goals as goal
 
 pub bounds-words-g : goal.bounds-words-g

@@ -1,6 +1,6 @@
 -- `blocks::class_words` meets its contract. Assumes nothing.
-use Rattle.std.proofs.Common.{◌-◌, ◌≤◌, refl, ◌∙◌, arith, length-set, rules}
-use Rattle.blocks.proofs.StoreForms.{Written, written_none, written_on, written_all, run_pages_lem}
+use Rattle.std.proofs.Common.{◌-◌, ◌≤◌}
+use Rattle.blocks.proofs.StoreForms.{Written}
 use Rattle.blocks.proofs.class_words.Given as goal
 
 abbrev pub invariant-loop-k : goal.invariant-loop-k

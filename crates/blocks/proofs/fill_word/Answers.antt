@@ -1,5 +1,4 @@
 -- `blocks::fill_word` meets its contract. Assumes nothing.
-use Rattle.std.proofs.Common.{rules}
 use Rattle.records.specs.Pool.{pool}
 use Rattle.blocks.proofs.StoreForms.{word_filled}
 use Rattle.blocks.proofs.fill_word.Goals as goal

@@ -1,5 +1,4 @@
 -- `blocks::free_bit` meets its contract. Assumes nothing.
-use Rattle.std.proofs.Common.{rules}
 use Rattle.records.specs.Pool.{pool}
 use Rattle.blocks.proofs.StoreForms.{bit_freed}
 use Rattle.blocks.proofs.free_bit.Goals as goal

@@ -1,5 +1,5 @@
 -- `blocks::free_large` meets its contract. Assumes nothing.
-use Rattle.std.proofs.Common.{refl, arith, rules}
+use Rattle.std.proofs.Common.{refl, arith}
 use Rattle.blocks.proofs.StoreForms.{first_put}
 use Rattle.blocks.proofs.free_large.Goals as goal
 

@@ -1,5 +1,5 @@
 -- `blocks::put_class` meets its contract. Assumes nothing.
-use Rattle.std.proofs.Common.{arith, rules}
+use Rattle.std.proofs.Common.{arith}
 use Rattle.classes.proofs.ClassLaws.{pages_read}
 use Rattle.blocks.proofs.StoreForms.{class_stored}
 use Rattle.blocks.proofs.put_class.Goals as goal

@@ -1,5 +1,5 @@
 -- `blocks::put_large` meets its contract. Assumes nothing.
-use Rattle.std.proofs.Common.{ap, ◌∙◌, arith, rules}
+use Rattle.std.proofs.Common.{ap, ◌∙◌, arith}
 use Rattle.records.specs.Kinds.{large_word}
 use Rattle.blocks.proofs.StoreForms.{first_put}
 use Rattle.blocks.proofs.put_large.Goals as goal

@@ -1,5 +1,4 @@
 -- `blocks::put_slot` meets its contract. Assumes nothing.
-use Rattle.std.proofs.Common.{rules}
 use Rattle.blocks.proofs.StoreForms.{slot_stored}
 use Rattle.blocks.proofs.put_slot.Goals as goal
 

@@ -1,6 +1,5 @@
 -- `cells::level_mark` meets its contract. Assumes nothing.
 use Rattle.cells.proofs.CellLaws.{mark_digit, mark_full}
-use borrow.Author.Rules.{rules}
 use Rattle.cells.proofs.level_mark.Goals as goal
 
 pub returns-then-t-lt10 : goal.returns-then-t-lt10

@@ -1,6 +1,5 @@
 -- `cells::level_of` meets its contract. Assumes nothing.
 use Rattle.cells.proofs.CellLaws.{tenths_most}
-use borrow.Author.Rules.{rules}
 use Rattle.cells.proofs.level_of.Goals as goal
 
 pub returns : goal.returns

@@ -5,7 +5,6 @@ use Rattle.records.specs.declared.Kind.TheVariants.{Edge, Free, Damaged, Large, 
 use Rattle.records.proofs.RunLaws.{large_at_low, class_at_low}
 use Rattle.records.proofs.AdmitLaws.{admitted}
 use Rattle.cells.proofs.CellLaws.{shown, large_shown, behind_shown}
-use borrow.Author.Rules.{rules}
 use Rattle.cells.proofs.page_cell.Goals as goal
 
 pub returns-in-Edge : goal.returns-in-Edge

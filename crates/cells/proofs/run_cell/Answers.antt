@@ -2,7 +2,6 @@
 use native.Mathlib.Omega.{arith}
 use mathlib.Core.Path.{◌∙◌}
 use Rattle.cells.proofs.CellLaws.{run_shown, run_slots, run_most}
-use borrow.Author.Rules.{rules}
 use Rattle.cells.proofs.run_cell.Goals as goal
 
 pub count_bits-n-requires : goal.count_bits-n-requires

@@ -1,7 +1,6 @@
 -- `census::census_sound` meets its contract. Assumes nothing.
 use native.Mathlib.Omega.{arith}
 use Rattle.census.proofs.MeanLaws.{listed_none, listed_all}
-use borrow.Author.Rules.{rules}
 use Rattle.census.proofs.census_sound.Goals as goal
 
 pub returns-then-room-n : goal.returns-then-room-n

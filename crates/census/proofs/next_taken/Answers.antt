@@ -1,6 +1,5 @@
 -- `census::next_taken` meets its contract. Assumes nothing.
 use Rattle.census.proofs.PartLaws.{next_is}
-use borrow.Author.Rules.{rules}
 use Rattle.census.proofs.next_taken.Goals as goal
 
 pub overflow_sub-result : goal.overflow_sub-result

@@ -2,7 +2,6 @@
 use native.Mathlib.Omega.{arith}
 use lib.ListN.{length-set}
 use Rattle.census.proofs.WriteLaws.{wrote_block}
-use borrow.Author.Rules.{rules}
 use Rattle.census.proofs.write_block.Goals as goal
 
 pub bounds-room-i-2 : goal.bounds-room-i-2

@@ -7,7 +7,6 @@ use Rattle.records.proofs.AdmitLaws.{admitted}
 use Rattle.blocks.proofs.PageLaws.{bare_blocks}
 use Rattle.census.proofs.WriteLaws.{wrote_none, wrote_as, room_as}
 use Rattle.census.proofs.PartLaws.{page_slots, page_run}
-use borrow.Author.Rules.{rules}
 use Rattle.census.proofs.write_page.Goals as goal
 
 pub write_slots-requires : goal.write_slots-requires

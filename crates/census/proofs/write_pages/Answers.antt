@@ -1,14 +1,10 @@
 -- `census::write_pages` meets its contract. Assumes nothing.
-use borrow.Author.Rules.{rules}
-use mathlib.Core.Path.{◌≡◌, refl}
-use Prim.Native.Nat.{◌*◌, ◌-◌, ◌≤◌}
+use mathlib.Core.Path.{refl}
 use native.Mathlib.Omega.{arith}
-use Rattle.records.specs.Pool.{pool}
 use Rattle.records.proofs.AdmitLaws.{admitted}
-use Rattle.blocks.specs.Blocks.{live}
-use Rattle.census.proofs.WriteLaws.{Writing, writing_none, writing_all}
+use Rattle.census.proofs.WriteLaws.{writing_none, writing_all}
 use Rattle.census.proofs.PartLaws.{page_room_lem, page_on}
-use Rattle.blocks.proofs.PageLaws.{live_from, from_start, from_over}
+use Rattle.blocks.proofs.PageLaws.{from_start, from_over}
 use Rattle.census.proofs.write_pages.Goals as goal
 
 pub overflow_mul-end : goal.overflow_mul-end

@@ -1,16 +1,13 @@
 -- `census::write_slots` meets its contract. Assumes nothing.
-use borrow.Author.Rules.{rules}
 use mathlib.Core.Path.{◌≡◌}
 use mathlib.Core.Bool.{true}
 use Prim.Native.Nat.{◌+◌, ◌-◌, ◌*◌, ◌≤◌, ◌<◌}
-use native.Mathlib.Omega.{arith}
 use Rattle.bitrow.specs.Row.{is_set}
 use Rattle.records.specs.declared.Kind.TheVariants.{Class}
 use Rattle.records.specs.Kinds.{slots_of}
 use Rattle.census.specs.Writes.{slot_blocks}
-use Rattle.census.proofs.WriteLaws.{Writing, writing_none, writing_all}
-use Rattle.classes.proofs.ClassLaws.{Cut, cut, cut_few, cut_offset}
-use Rattle.census.proofs.PartLaws.{slots_start, slot_room, slot_on, slots_over}
+use Rattle.census.proofs.WriteLaws.{Writing}
+use Rattle.classes.proofs.ClassLaws.{Cut}
 use Rattle.census.proofs.write_slots.Given as goal
 
 abbrev pub invariant-loop-s : goal.invariant-loop-s

@@ -1,6 +1,5 @@
 -- `classes::class_of` meets its contract: the calculation gives the smallest class.
 -- Assumes nothing.
-use borrow.Author.Rules.{rules}
 use mathlib.Core.Path.{refl}
 use native.Mathlib.Nat.{le_trans, lt_of_le_of_lt}
 use native.Mathlib.Omega.{arith}

@@ -1,6 +1,5 @@
 -- `fresh::each_of` meets its contract. Assumes nothing.
 use Rattle.fresh.proofs.FillLaws.{each_is, each_not}
-use borrow.Author.Rules.{rules}
 use Rattle.fresh.proofs.each_of.Goals as goal
 
 pub returns-then-i-m-eq0 : goal.returns-then-i-m-eq0

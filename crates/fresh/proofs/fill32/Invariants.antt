@@ -1,10 +1,7 @@
 -- `fresh::fill32` meets its contract. Assumes nothing.
-use borrow.Author.Rules.{rules}
 use Prim.Native.Nat.{◌≤◌, ◌-◌}
-use native.Mathlib.Omega.{arith}
 use lib.ListN.{length}
 use Rattle.fresh.specs.Fill.{Filled}
-use Rattle.fresh.proofs.FillLaws.{filled_none, filled_more, filled_done}
 use Rattle.fresh.proofs.fill32.Given as goal
 
 abbrev pub invariant-loop-i : goal.invariant-loop-i

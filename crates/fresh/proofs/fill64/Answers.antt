@@ -1,10 +1,6 @@
 -- `fresh::fill64` meets its contract. Assumes nothing.
-use borrow.Author.Rules.{rules}
 use mathlib.Core.Path.{◌∙◌}
-use Prim.Native.Nat.{◌≤◌, ◌-◌}
 use native.Mathlib.Omega.{arith}
-use lib.ListN.{length}
-use Rattle.fresh.specs.Fill.{Filled}
 use Rattle.fresh.proofs.FillLaws.{filled_none, filled_more, filled_done}
 use Rattle.fresh.proofs.fill64.Goals as goal
 

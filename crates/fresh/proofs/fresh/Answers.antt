@@ -1,7 +1,5 @@
 -- `fresh::fresh` meets its contract. Assumes nothing.
-use borrow.Author.Tests.{not-true, not-false}
 use Rattle.fresh.proofs.FillLaws.{fresh_made, fresh_not}
-use borrow.Author.Rules.{rules}
 use Rattle.fresh.proofs.fresh.Goals as goal
 
 pub returns-then-not-is_shaped : goal.returns-then-not-is_shaped

@@ -1,7 +1,6 @@
 -- `gaps::at_edge` meets its contract: each return goes by the test that led there.
 -- Assumes nothing.
 use mathlib.Core.Path.{sym, ap, ◌∙◌}
-use borrow.Author.Rules.{rules}
 use Rattle.gaps.specs.Gaps.{searching}
 use Rattle.gaps.proofs.Turns.{at_end, at_start}
 use Rattle.gaps.proofs.at_edge.Goals as goal

@@ -3,12 +3,10 @@
 -- Assumes nothing.
 use Prim.Native.Nat.{◌-◌}
 use native.Mathlib.Omega.{arith}
-use borrow.Author.Rules.{rules}
-use borrow.Author.Tests.{eqb-true, not-false}
 use lib.Bits.{and_le_r}
 use lib.Count.{trailing_le}
 use Rattle.bitrow.proofs.Words.{one_lowest}
-use Rattle.gaps.proofs.Turns.{Within, word_start, word_turn, word_done, word_settled}
+use Rattle.gaps.proofs.Turns.{word_start, word_turn, word_done, word_settled}
 use Rattle.gaps.proofs.best_in_word.Goals as goal
 
 pub loop-edges-init : goal.loop-edges-init

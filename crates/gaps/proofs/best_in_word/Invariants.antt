@@ -1,14 +1,7 @@
 -- `gaps::best_in_word` meets its contract. The loop's invariant: the search has come to a place of the word, gives from there what it gave
 -- from q on, and the edges are those from there on.
 -- Assumes nothing.
-use Prim.Native.Nat.{◌-◌}
-use native.Mathlib.Omega.{arith}
-use borrow.Author.Rules.{rules}
-use borrow.Author.Tests.{eqb-true, not-false}
-use lib.Bits.{and_le_r}
-use lib.Count.{trailing_le}
-use Rattle.bitrow.proofs.Words.{one_lowest}
-use Rattle.gaps.proofs.Turns.{Within, word_start, word_turn, word_done, word_settled}
+use Rattle.gaps.proofs.Turns.{Within}
 use Rattle.gaps.proofs.best_in_word.Given as goal
 
 abbrev pub invariant-loop-edges : goal.invariant-loop-edges

@@ -1,6 +1,5 @@
 -- `gaps::edges_of` meets its contract.
 -- Assumes nothing.
-use borrow.Author.Rules.{rules}
 use Rattle.bitrow.specs.Row.{digit}
 use Rattle.bitrow.proofs.Words.{digit_lt}
 use Rattle.gaps.proofs.Edges.{edges_of}

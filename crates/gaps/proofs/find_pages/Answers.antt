@@ -1,10 +1,8 @@
 -- `gaps::find_pages` meets its contract. The loop's invariant: the best gap so far, or else the chunks from k on, give what all chunks give.
 -- Assumes nothing.
-use mathlib.Core.Logic.{⊎_elim}
-use Prim.Native.Nat.{◌-◌, ◌≤◌}
 use native.Mathlib.Omega.{arith}
-use borrow.Author.Tests.{leb-true, leb-false}
-use Rattle.gaps.proofs.Choice.{Sought, sought_start, sought_turn, sought_at, sought_none}
+use borrow.Author.Tests.{leb-true}
+use Rattle.gaps.proofs.Choice.{sought_start, sought_turn, sought_at, sought_none}
 use Rattle.gaps.proofs.find_pages.Goals as goal
 use Rattle.gaps.proofs.find_pages.Goals.{then-loop-k-test+else-best-ge512, else-loop-k-test}
 

@@ -1,10 +1,8 @@
 -- `gaps::first_free` meets its contract. The loop's invariant: the search from word i on finds what the whole one finds.
 -- Assumes nothing.
 use Prim.Native.Nat.{◌-◌, ◌≤◌}
-use native.Mathlib.Omega.{arith}
-use borrow.Author.Rules.{rules}
 use Rattle.gaps.specs.Gaps.{barred}
-use Rattle.gaps.proofs.Chunks.{Seeks, free_start, free_turn, free_found, free_none}
+use Rattle.gaps.proofs.Chunks.{Seeks}
 use Rattle.gaps.proofs.first_free.Given as goal
 
 abbrev pub invariant-loop-i : goal.invariant-loop-i

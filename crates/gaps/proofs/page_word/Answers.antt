@@ -1,7 +1,6 @@
 -- `gaps::page_word` meets its contract.
 -- Assumes nothing.
 use native.Mathlib.Omega.{arith}
-use borrow.Author.Rules.{rules}
 use Rattle.gaps.proofs.Chunks.{word_first, word_later}
 use Rattle.gaps.proofs.page_word.Goals as goal
 

@@ -1,12 +1,8 @@
 -- `hints::build` meets its contract. Assumes nothing.
-use Rattle.records.specs.Pool.{pool}
 use Rattle.records.proofs.AdmitLaws.{admitted}
-use Rattle.hints.specs.Hints.{Marks}
 use Rattle.hints.proofs.NoteLaws.{marks_as}
-use Prim.Native.Nat.{◌*◌, ◌-◌, ◌≤◌}
-use mathlib.Core.Path.{◌≡◌, refl}
+use mathlib.Core.Path.{refl}
 use native.Mathlib.Omega.{arith}
-use borrow.Author.Rules.{rules}
 use Rattle.hints.proofs.build.Goals as goal
 
 pub overflow_mul-n : goal.overflow_mul-n

@@ -1,12 +1,8 @@
 -- `hints::build` meets its contract. Assumes nothing.
 use Rattle.records.specs.Pool.{pool}
-use Rattle.records.proofs.AdmitLaws.{admitted}
 use Rattle.hints.specs.Hints.{Marks}
-use Rattle.hints.proofs.NoteLaws.{marks_as}
 use Prim.Native.Nat.{◌*◌, ◌-◌, ◌≤◌}
-use mathlib.Core.Path.{◌≡◌, refl}
-use native.Mathlib.Omega.{arith}
-use borrow.Author.Rules.{rules}
+use mathlib.Core.Path.{◌≡◌}
 use Rattle.hints.proofs.build.Given as goal
 
 abbrev pub invariant-loop-g : goal.invariant-loop-g

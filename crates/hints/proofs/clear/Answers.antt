@@ -1,9 +1,6 @@
 -- `hints::clear` meets its contract. Assumes nothing.
-use Rattle.hints.specs.Hints.{Zeros}
 use Rattle.hints.proofs.CutLaws.{zeros_on}
-use Prim.Native.Nat.{◌-◌, ◌≤◌}
 use native.Mathlib.Omega.{arith}
-use borrow.Author.Rules.{rules}
 use Rattle.hints.proofs.clear.Goals as goal
 
 pub loop-i-init : goal.loop-i-init

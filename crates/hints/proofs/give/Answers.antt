@@ -8,11 +8,9 @@ use Rattle.records.specs.Pool.{Pool, kind_at}
 use Rattle.records.specs.declared.Kind.TheVariants.{Class}
 use Rattle.records.specs.Calls.{admit_of}
 use Rattle.hints.specs.Hints.{Marks}
-use Rattle.records.specs.Lent.{lent}
 use Rattle.records.proofs.RunLaws.{class_at_low}
 use Rattle.hints.proofs.RowLaws.{shifted, lent_long}
-use Rattle.hints.proofs.GiveLaws.{Held, Reckoned, reckoned, gave_between, number_low, word_inside, taken_bit, taken_low, gave_behind, gave_free, gave_slot}
-use borrow.Author.Rules.{rules}
+use Rattle.hints.proofs.GiveLaws.{Held, reckoned, gave_between, number_low, word_inside, taken_bit, taken_low, gave_behind, gave_free, gave_slot}
 use Rattle.hints.proofs.give.Goals as goal
 
 held : {c : ℕ} {p : Pool} {rows opens : List ℕ} {g b off : ℕ} → admit_of c p ≡ 0 → Marks (512 * c) p rows opens → kind_at p g ≡ Class b

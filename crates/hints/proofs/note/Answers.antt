@@ -1,13 +1,9 @@
 -- `hints::note` meets its contract. Assumes nothing.
-use mathlib.Core.Path.{◌≡◌, refl}
-use mathlib.Core.Logic.{⊎_elim}
-use Prim.Native.Nat.{◌*◌, ◌-◌, ◌≤◌}
+use mathlib.Core.Path.{refl}
 use native.Mathlib.Omega.{arith}
-use Rattle.records.specs.Pool.{pool}
 use Rattle.records.proofs.RunLaws.{class_at_low}
 use Rattle.hints.proofs.RowLaws.{lent_long}
-use Rattle.hints.proofs.NoteLaws.{Told, told_none, told_on, told_off, told_byte, Placed, placed, noted_anew}
-use borrow.Author.Rules.{rules}
+use Rattle.hints.proofs.NoteLaws.{told_none, told_on, told_off, told_byte, placed, noted_anew}
 use Rattle.hints.proofs.note.Goals as goal
 use Rattle.hints.proofs.note.Goals.{then-slots-g, else-slots-g}
 

@@ -1,13 +1,8 @@
 -- `hints::note` meets its contract. Assumes nothing.
-use mathlib.Core.Path.{◌≡◌, refl}
-use mathlib.Core.Logic.{⊎_elim}
+use mathlib.Core.Path.{◌≡◌}
 use Prim.Native.Nat.{◌*◌, ◌-◌, ◌≤◌}
-use native.Mathlib.Omega.{arith}
 use Rattle.records.specs.Pool.{pool}
-use Rattle.records.proofs.RunLaws.{class_at_low}
-use Rattle.hints.proofs.RowLaws.{lent_long}
-use Rattle.hints.proofs.NoteLaws.{Told, told_none, told_on, told_off, told_byte, Placed, placed, noted_anew}
-use borrow.Author.Rules.{rules}
+use Rattle.hints.proofs.NoteLaws.{Told, Placed}
 use Rattle.hints.proofs.note.Given as goal
 
 abbrev pub invariant-loop-k : goal.invariant-loop-k

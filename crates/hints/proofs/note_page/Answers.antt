@@ -1,8 +1,6 @@
 -- `hints::note_page` meets its contract. Assumes nothing.
 use Rattle.hints.proofs.NoteLaws.{next_bare, others_none, page_noted}
-use Prim.Native.Nat.{◌-◌}
 use mathlib.Core.Path.{◌∙◌, sym}
-use borrow.Author.Rules.{rules}
 use Rattle.hints.proofs.note_page.Goals as goal
 
 pub note-requires : goal.note-requires

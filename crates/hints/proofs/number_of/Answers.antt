@@ -4,7 +4,6 @@ use native.Mathlib.Nat.{div-le_self}
 use native.Mathlib.Omega.{arith}
 use Rattle.classes.proofs.ClassLaws.{row_facts}
 use Rattle.hints.proofs.CutLaws.{started_none, started_mask, started_count, started_share, started_size}
-use borrow.Author.Rules.{rules}
 use Rattle.hints.proofs.number_of.Goals as goal
 
 pub returns-then-n-from : goal.returns-then-n-from

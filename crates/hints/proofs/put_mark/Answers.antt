@@ -1,7 +1,5 @@
 -- `hints::put_mark` meets its contract. Assumes nothing.
 use Rattle.hints.proofs.RowLaws.{mark_put}
-use Prim.Native.Nat.{◌-◌}
-use borrow.Author.Rules.{rules}
 use Rattle.hints.proofs.put_mark.Goals as goal
 
 pub returns : goal.returns

@@ -1,5 +1,4 @@
 -- `hints::set_mark` meets its contract. Assumes nothing.
-use borrow.Author.Rules.{rules}
 use native.Mathlib.Omega.{arith}
 use Rattle.hints.proofs.RowLaws.{mark_set, top_inside}
 use Rattle.hints.proofs.set_mark.Goals as goal

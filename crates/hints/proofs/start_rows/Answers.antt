@@ -1,10 +1,8 @@
 -- `hints::start_rows` meets its contract. Assumes nothing.
-use borrow.Author.Rules.{rules}
 use mathlib.Core.Path.{refl, ◌∙◌}
-use Prim.Native.Nat.{◌-◌, ◌≤◌}
 use native.Mathlib.Omega.{arith}
 use Rattle.classes.proofs.ClassLaws.{row_read, size_read, slots_read}
-use Rattle.hints.proofs.CutLaws.{Started, started_first, started_on, blank}
+use Rattle.hints.proofs.CutLaws.{started_first, started_on, blank}
 use Rattle.hints.proofs.start_rows.Goals as goal
 
 pub loop-i-init : goal.loop-i-init

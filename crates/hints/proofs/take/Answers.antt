@@ -1,5 +1,4 @@
 -- `hints::take` meets its contract. Assumes nothing.
-use borrow.Author.Rules.{rules}
 use native.Mathlib.Omega.{arith}
 use Prim.Native.Nat.{ℕ, ◌+◌, ◌*◌, ◌^◌, ◌<◌}
 use mathlib.Core.Path.{◌≡◌}
@@ -10,7 +9,6 @@ use Rattle.records.specs.Pool.{Pool}
 use Rattle.records.specs.Calls.{admit_of}
 use Rattle.hints.specs.Hints.{Marks}
 use lib.ListN.{get_or}
-use Rattle.records.specs.Lent.{lent}
 use Rattle.hints.proofs.FrontLaws.{Leads, leads_low, leads_high, taken_none}
 use Rattle.hints.proofs.take.Goals as goal
 

@@ -1,13 +1,10 @@
 -- `hints::take_at` meets its contract. Assumes nothing.
-use borrow.Author.Rules.{rules}
 use native.Mathlib.Omega.{arith}
 use mathlib.Core.Path.{◌∙◌}
 use mathlib.Core.Bool.{not}
 use Prim.Native.Nat.{◌+◌, ◌*◌}
 use lib.Dec.{eqb}
 use lib.ListN.{get_or}
-use Rattle.records.specs.Lent.{lent}
-use Rattle.hints.specs.Hints.{Front}
 use Rattle.hints.proofs.RowLaws.{top_inside}
 use Rattle.hints.proofs.PartLaws.{part_cut}
 use Rattle.hints.proofs.TakeLaws.{Reached, reached, Aimed, aimed, took}

@@ -1,6 +1,5 @@
 -- `lensember::flat_reserved` meets its contract. Assumes nothing.
 use Rattle.lensember.proofs.FlatLaws.{flat_as_lem}
-use borrow.Author.Rules.{rules}
 use Rattle.lensember.proofs.flat_reserved.Goals as goal
 
 pub returns-in-Slot : goal.returns-in-Slot

@@ -1,5 +1,4 @@
 -- `lensember::lensember_census` meets its contract. Assumes nothing.
-use borrow.Author.Rules.{rules}
 use mathlib.Core.Path.{◌∙◌}
 use Rattle.refusals.proofs.CallLaws.{refused, served}
 use Rattle.census.specs.Census.{census_of}

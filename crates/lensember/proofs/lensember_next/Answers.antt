@@ -1,5 +1,4 @@
 -- `lensember::lensember_next` meets its contract. Assumes nothing.
-use borrow.Author.Rules.{rules}
 use mathlib.Core.Path.{ap, ◌∙◌}
 use Rattle.refusals.proofs.CallLaws.{refused, served}
 use Rattle.next.specs.Next.{next_of, answer_of}

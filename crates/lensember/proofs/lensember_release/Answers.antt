@@ -1,5 +1,4 @@
 -- `lensember::lensember_release` meets its contract. Assumes nothing.
-use borrow.Author.Rules.{rules}
 use mathlib.Core.Path.{◌∙◌}
 use Rattle.refusals.proofs.CallLaws.{refused, served}
 use Rattle.release.specs.Release.{release_of}

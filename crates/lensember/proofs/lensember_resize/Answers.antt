@@ -1,6 +1,5 @@
 -- `lensember::lensember_resize` meets its contract. Assumes nothing.
 use Rattle.resize.proofs.MeanLaws.{resize_refused, resize_served}
-use borrow.Author.Rules.{rules}
 use Rattle.lensember.proofs.lensember_resize.Goals as goal
 
 pub returns-then-a-ne0 : goal.returns-then-a-ne0

@@ -1,5 +1,4 @@
 -- `lensember::lensember_sweep` meets its contract. Assumes nothing.
-use borrow.Author.Rules.{rules}
 use mathlib.Core.Path.{◌∙◌}
 use Rattle.refusals.proofs.CallLaws.{refused, served}
 use Rattle.sweep.specs.Sweep.{sweep_of}

@@ -3,7 +3,6 @@ use mathlib.Core.Path.{sym, ap, ◌∙◌}
 use native.Mathlib.Omega.{arith}
 use Rattle.reserve.proofs.AnswerForms.{low_as}
 use Rattle.marked.specs.Marked.{code_of}
-use borrow.Author.Rules.{rules}
 use Rattle.marked.proofs.code_of.Goals as goal
 
 pub overflow_mul-g : goal.overflow_mul-g

@@ -1,10 +1,8 @@
 -- `marked::release_marked` meets its contract. Assumes nothing.
 use mathlib.Core.Path.{sym, ◌∙◌}
 use native.Mathlib.Omega.{arith}
-use borrow.Author.Tests.{not-true, not-false}
 use Rattle.records.proofs.AdmitLaws.{admitted}
 use Rattle.marked.proofs.ReleaseLaws.{give_outside, out_marks, run_low, run_there, gave_run}
-use borrow.Author.Rules.{rules}
 use Rattle.marked.proofs.release_marked.Goals as goal
 
 pub overflow_mul-c : goal.overflow_mul-c

@@ -4,7 +4,6 @@ use Rattle.classes.proofs.ClassLaws.{pages_read}
 use Rattle.records.proofs.AdmitLaws.{admitted}
 use Rattle.reserve.proofs.PlanLaws.{class_pages}
 use Rattle.marked.proofs.ReserveLaws.{class_nowhere, class_room, class_page, class_note, class_noted}
-use borrow.Author.Rules.{rules}
 use Rattle.marked.proofs.reserve_class.Goals as goal
 
 pub find_pages-requires : goal.find_pages-requires

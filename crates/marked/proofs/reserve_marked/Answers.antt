@@ -1,7 +1,6 @@
 -- `marked::reserve_marked` meets its contract. Assumes nothing.
 use native.Mathlib.Omega.{arith}
 use Rattle.marked.proofs.ReserveLaws.{coded_now, full_now, coded_later}
-use borrow.Author.Rules.{rules}
 use Rattle.marked.proofs.reserve_marked.Goals as goal
 
 pub returns-then-r-ne-NO_ROOM : goal.returns-then-r-ne-NO_ROOM

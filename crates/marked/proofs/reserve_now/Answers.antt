@@ -5,7 +5,6 @@ use Rattle.records.specs.Calls.{admit_of}
 use Rattle.reserve.proofs.PlanLaws.{class_low}
 use Rattle.marked.proofs.MarkLaws.{same_marks}
 use Rattle.marked.proofs.ReserveLaws.{slot_taken, none_taken, class_taken}
-use borrow.Author.Rules.{rules}
 use Rattle.marked.proofs.reserve_now.Goals as goal
 
 pub returns-then-n-gt3072 : goal.returns-then-n-gt3072

@@ -2,7 +2,6 @@
 use native.Mathlib.Omega.{arith}
 use Rattle.records.proofs.AdmitLaws.{admitted}
 use Rattle.marked.proofs.ReserveLaws.{run_huge, run_nowhere, run_room, run_put}
-use borrow.Author.Rules.{rules}
 use Rattle.marked.proofs.reserve_run.Goals as goal
 
 pub returns-then-n-gt2093056 : goal.returns-then-n-gt2093056

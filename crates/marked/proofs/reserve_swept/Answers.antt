@@ -1,7 +1,6 @@
 -- `marked::reserve_swept` meets its contract. Assumes nothing.
 use mathlib.Core.Path.{sym, ◌∙◌}
 use Rattle.marked.proofs.ReserveLaws.{ready_ok, ready_low, ready_sound, coded_ready, coded_full}
-use borrow.Author.Rules.{rules}
 use Rattle.marked.proofs.reserve_swept.Goals as goal
 
 pub make_room-x-requires : goal.make_room-x-requires

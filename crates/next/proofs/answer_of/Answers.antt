@@ -1,5 +1,4 @@
 -- `next::answer_of` meets its contract. Assumes nothing.
-use borrow.Author.Rules.{rules}
 use mathlib.Core.Path.{sym, ap}
 use Rattle.next.specs.Next.{answer_of}
 use Rattle.next.proofs.answer_of.Goals as goal

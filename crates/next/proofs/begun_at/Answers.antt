@@ -4,7 +4,6 @@ use native.Mathlib.Omega.{arith}
 use Rattle.records.proofs.KindLaws.{others_bare}
 use Rattle.records.proofs.RunLaws.{class_at_low, large_at_low}
 use Rattle.next.proofs.CallLaws.{begun_class, begun_large, begun_bare}
-use borrow.Author.Rules.{rules}
 use Rattle.next.proofs.begun_at.Goals as goal
 
 pub overflow_add-result : goal.overflow_add-result

@@ -1,13 +1,7 @@
 -- `next::next_sound` meets its contract. Assumes nothing.
-use borrow.Author.Rules.{rules}
-use mathlib.Core.Path.{refl}
 use Prim.Native.Nat.{◌+◌, ◌-◌, ◌*◌, ◌≤◌}
-use native.Mathlib.Omega.{arith}
 use Rattle.records.specs.Pool.{pool}
-use Rattle.records.proofs.AdmitLaws.{admitted}
 use Rattle.next.specs.Walk.{Ahead}
-use Rattle.next.proofs.StartLaws.{none_outside}
-use Rattle.next.proofs.AheadLaws.{next_low, few_slots, few_pages, moved, nothing_left, page_passed, large_found, slots_passed, slot_found, free_passed, edge_passed}
 use Rattle.next.proofs.next_sound.Given as goal
 
 abbrev pub invariant-loop-slot : goal.invariant-loop-slot

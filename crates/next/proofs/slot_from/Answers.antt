@@ -3,7 +3,6 @@ use mathlib.Core.Path.{refl}
 use native.Mathlib.Omega.{arith}
 use Rattle.next.proofs.CallLaws.{slot_of}
 use Rattle.classes.proofs.ClassLaws.{cut_some}
-use borrow.Author.Rules.{rules}
 use Rattle.next.proofs.slot_from.Goals as goal
 
 pub overflow_sub-result : goal.overflow_sub-result

@@ -3,7 +3,6 @@ use mathlib.Core.Path.{refl}
 use native.Mathlib.Omega.{arith}
 use Rattle.records.proofs.RunLaws.{lies_as}
 use Rattle.next.proofs.StartLaws.{others_alone, start_run, start_edge, start_here, start_behind}
-use borrow.Author.Rules.{rules}
 use Rattle.next.proofs.start_of.Goals as goal
 
 pub overflow_mul-f : goal.overflow_mul-f

@@ -4,7 +4,6 @@ use native.Mathlib.Omega.{arith}
 use Rattle.records.specs.Pool.{pool}
 use Rattle.records.proofs.AdmitLaws.{admitted}
 use Rattle.pagemap.proofs.DrawLaws.{draw_refused, draw_short, draw_whole}
-use borrow.Author.Rules.{rules}
 use Rattle.pagemap.proofs.draw.Goals as goal
 
 pub returns-then-a-ne0 : goal.returns-then-a-ne0

@@ -3,7 +3,6 @@ use native.Mathlib.Omega.{arith}
 use Rattle.records.proofs.AdmitLaws.{admitted}
 use Rattle.text.proofs.TextLaws.{appends_length}
 use Rattle.pagemap.proofs.DrawLaws.{room_whole, draw_made}
-use borrow.Author.Rules.{rules}
 use Rattle.pagemap.proofs.draw_sound.Goals as goal
 
 pub put_head-i-requires : goal.put_head-i-requires

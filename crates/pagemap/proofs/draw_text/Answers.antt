@@ -1,6 +1,5 @@
 -- `pagemap::draw_text` meets its contract. Assumes nothing.
 use Rattle.text.proofs.TextLaws.{counted}
-use borrow.Author.Rules.{rules}
 use Rattle.pagemap.proofs.draw_text.Goals as goal
 
 pub returns : goal.returns

@@ -2,7 +2,6 @@
 use mathlib.Core.Path.{ap}
 use native.Mathlib.Omega.{arith}
 use Rattle.pagemap.specs.Drawing.{foot_of, foot_room}
-use borrow.Author.Rules.{rules}
 use Rattle.pagemap.proofs.put_foot.Goals as goal
 
 pub put_filled-requires : goal.put_filled-requires

@@ -3,7 +3,6 @@ use mathlib.Core.Path.{ap}
 use native.Mathlib.Omega.{arith}
 use Rattle.text.proofs.TextLaws.{appends_none}
 use Rattle.pagemap.specs.Drawing.{head_of, head_room}
-use borrow.Author.Rules.{rules}
 use Rattle.pagemap.proofs.put_head.Goals as goal
 
 pub put_filled-requires : goal.put_filled-requires

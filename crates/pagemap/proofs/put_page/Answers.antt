@@ -2,7 +2,6 @@
 use mathlib.Core.Path.{ap}
 use native.Mathlib.Omega.{arith}
 use Rattle.pagemap.specs.Drawing.{text_page, page_room}
-use borrow.Author.Rules.{rules}
 use Rattle.pagemap.proofs.put_page.Goals as goal
 
 pub put_svg_page-requires : goal.put_svg_page-requires

@@ -1,11 +1,8 @@
 -- `pagemap::put_pages` meets its contract. Assumes nothing.
-use borrow.Author.Rules.{rules}
-use mathlib.Core.Path.{◌≡◌, refl}
+use mathlib.Core.Path.{◌≡◌}
 use Prim.Native.Nat.{◌-◌, ◌*◌, ◌≤◌}
-use native.Mathlib.Omega.{arith}
 use Rattle.records.specs.Pool.{pool}
-use Rattle.records.proofs.AdmitLaws.{admitted}
-use Rattle.pagemap.proofs.DrawLaws.{Drawing, drawing_first, drawing_kept, drawing_done, drawing_room, drawing_next}
+use Rattle.pagemap.proofs.DrawLaws.{Drawing}
 use Rattle.pagemap.proofs.put_pages.Given as goal
 
 abbrev pub invariant-loop-g : goal.invariant-loop-g

@@ -1,7 +1,6 @@
 -- `pagemap::put_svg_page` meets its contract. Assumes nothing.
 use native.Mathlib.Omega.{arith}
 use Rattle.pagemap.specs.Drawing.{svg_page}
-use borrow.Author.Rules.{rules}
 use Rattle.pagemap.proofs.put_svg_page.Goals as goal
 
 pub returns : goal.returns

@@ -1,6 +1,5 @@
 -- `pagemap::room_for` meets its contract. Assumes nothing.
 use Rattle.pagemap.proofs.DrawLaws.{room_svg, room_text}
-use borrow.Author.Rules.{rules}
 use Rattle.pagemap.proofs.room_for.Goals as goal
 
 pub returns-then-svg : goal.returns-then-svg

@@ -1,11 +1,6 @@
 -- `records::any_slot` meets its contract. Assumes nothing.
-use borrow.Author.Rules.{rules}
-use mathlib.Core.Path.{◌≡◌, refl}
-use Prim.Native.Nat.{◌≤◌, ◌-◌, ◌*◌}
+use mathlib.Core.Path.{refl}
 use native.Mathlib.Omega.{arith}
-use lib.Dec.{eqb}
-use Rattle.records.specs.Sound.{all}
-use Rattle.records.specs.Slots.{word_clear}
 use Rattle.records.proofs.SlotLaws.{all_none, any_turn, slots_done}
 use Rattle.records.proofs.any_slot.Goals as goal
 

@@ -3,7 +3,6 @@ use mathlib.Core.Path.{refl}
 use native.Mathlib.Omega.{arith}
 use Rattle.records.proofs.AdmitLaws.{admitted}
 use Rattle.records.proofs.RunLaws.{lies_in}
-use borrow.Author.Rules.{rules}
 use Rattle.records.proofs.class_run.Goals as goal
 
 pub offset_bounds-words-g : goal.offset_bounds-words-g

@@ -1,7 +1,6 @@
 -- `records::home_at` meets its contract. Assumes nothing.
 use mathlib.Core.Path.{sym, ◌∙◌}
 use Rattle.records.proofs.RunLaws.{lies_out}
-use borrow.Author.Rules.{rules}
 use Rattle.records.proofs.home_at.Goals as goal
 
 pub class_run-r-requires : goal.class_run-r-requires

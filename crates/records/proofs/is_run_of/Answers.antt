@@ -5,7 +5,6 @@ use lib.Dec.{eqb}
 use lib.ListN.{get_or}
 use Rattle.records.proofs.AdmitLaws.{admitted}
 use Rattle.records.proofs.WordLaws.{word_run}
-use borrow.Author.Rules.{rules}
 use Rattle.records.proofs.is_run_of.Goals as goal
 
 pub offset_bounds-words-g : goal.offset_bounds-words-g

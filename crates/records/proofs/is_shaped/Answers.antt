@@ -1,7 +1,6 @@
 -- `records::is_shaped` meets its contract. Assumes nothing.
 use native.Mathlib.Omega.{arith}
 use Rattle.records.proofs.AdmitLaws.{lengths_shaped, not_shaped}
-use borrow.Author.Rules.{rules}
 use Rattle.records.proofs.is_shaped.Goals as goal
 
 pub returns-then-c-lt1 : goal.returns-then-c-lt1

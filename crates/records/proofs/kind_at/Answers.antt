@@ -3,7 +3,6 @@ use mathlib.Core.Path.{sym, ◌∙◌}
 use native.Mathlib.Omega.{arith}
 use Rattle.records.proofs.AdmitLaws.{admitted}
 use Rattle.records.proofs.WordLaws.{page_inner, page_class, page_large, page_inside, page_edge, page_free}
-use borrow.Author.Rules.{rules}
 use Rattle.records.proofs.kind_at.Goals as goal
 
 pub offset_bounds-words-g : goal.offset_bounds-words-g

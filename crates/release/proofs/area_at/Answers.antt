@@ -4,7 +4,6 @@ use Rattle.records.proofs.AdmitLaws.{admitted}
 use Rattle.records.proofs.KindLaws.{others_bare}
 use Rattle.records.proofs.RunLaws.{lies_as}
 use Rattle.release.proofs.SpotLaws.{spot_outside, lies_class, lies_first, lies_behind, lies_bare}
-use borrow.Author.Rules.{rules}
 use Rattle.release.proofs.area_at.Goals as goal
 
 pub overflow_mul-c : goal.overflow_mul-c

@@ -1,6 +1,5 @@
 -- `release::release_sound` meets its contract. Assumes nothing.
 use Rattle.release.proofs.GiveLaws.{gave_at}
-use borrow.Author.Rules.{rules}
 use mathlib.Core.Path.{◌∙◌}
 use Rattle.release.proofs.release_sound.Goals as goal
 

@@ -10,7 +10,6 @@ use Rattle.records.proofs.RunLaws.{class_at_low}
 use Rattle.release.specs.Release.{sized}
 use Rattle.blocks.specs.Blocks.{IsSlot, IsLarge}
 use Rattle.release.proofs.GiveLaws.{found, large_ends, size_as}
-use borrow.Author.Rules.{rules}
 use Rattle.release.proofs.size_sound.Goals as goal
 
 pub returns-in-Nowhere : goal.returns-in-Nowhere

@@ -1,7 +1,6 @@
 -- `release::slot_spot` meets its contract. Assumes nothing.
 use Rattle.classes.proofs.ClassLaws.{Cut, row_facts, cut_few}
 use Rattle.release.proofs.SpotLaws.{slot_between, slot_behind, slot_taken, slot_free}
-use borrow.Author.Rules.{rules}
 use mathlib.Core.Path.{◌∙◌, sym}
 use native.Mathlib.Omega.{arith}
 use Rattle.release.proofs.slot_spot.Goals as goal

@@ -3,7 +3,6 @@ use Prim.Native.Nat.{◌<◌, ◌≤◌}
 use Rattle.classes.proofs.ClassLaws.{size_read, slots_read}
 use Rattle.records.proofs.AdmitLaws.{admitted}
 use Rattle.release.proofs.GiveLaws.{leads_as}
-use borrow.Author.Rules.{rules}
 use mathlib.Core.Path.{◌∙◌, ◌≡◌}
 use native.Mathlib.Omega.{arith}
 use Rattle.release.proofs.spot_at.Goals as goal

@@ -1,7 +1,6 @@
 -- `reserve::answer_of` meets its contract. Assumes nothing.
 use Prim.Native.Nat.{◌<◌}
 use Rattle.reserve.proofs.AnswerForms.{answer_as, low_as, size_of, large_is}
-use borrow.Author.Rules.{rules}
 use native.Mathlib.Omega.{arith}
 use Rattle.reserve.proofs.answer_of.Goals as goal
 

@@ -1,9 +1,7 @@
 -- `reserve::has_slot` meets its contract. Assumes nothing.
 use native.Mathlib.Omega.{arith}
-use borrow.Author.Tests.{not-true, not-false}
 use Rattle.records.proofs.AdmitLaws.{admitted}
 use Rattle.reserve.proofs.PlanLaws.{class_few, has_not, has_by_slot}
-use borrow.Author.Rules.{rules}
 use Rattle.reserve.proofs.has_slot.Goals as goal
 
 pub returns-then-not-is_run_of : goal.returns-then-not-is_run_of

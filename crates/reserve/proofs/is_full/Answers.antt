@@ -1,6 +1,5 @@
 -- `reserve::is_full` meets its contract. Assumes nothing.
 use Rattle.reserve.proofs.AnswerForms.{full_as, others_roomy}
-use borrow.Author.Rules.{rules}
 use mathlib.Core.Path.{sym}
 use Rattle.reserve.proofs.is_full.Goals as goal
 

@@ -1,6 +1,5 @@
 -- `reserve::lowest_free` meets its contract. Assumes nothing.
 use Rattle.reserve.proofs.PlanLaws.{free_is}
-use borrow.Author.Rules.{rules}
 use Rattle.reserve.proofs.lowest_free.Goals as goal
 
 pub overflow_sub-result : goal.overflow_sub-result

@@ -1,11 +1,9 @@
 -- `reserve::make_room` meets its contract. Assumes nothing.
 use mathlib.Core.Path.{sym, ◌∙◌}
 use native.Mathlib.Omega.{arith}
-use borrow.Author.Tests.{not-true, not-false}
 use Rattle.records.proofs.AdmitLaws.{admitted}
 use Rattle.blocks.proofs.KeepLaws.{admit_good}
 use Rattle.reserve.proofs.ReadyLaws.{room_here, room_nowhere, room_swept, plan_here, plan_nowhere, plan_swept}
-use borrow.Author.Rules.{rules}
 use Rattle.reserve.proofs.make_room.Goals as goal
 
 pub returns-then-not-is_full : goal.returns-then-not-is_full

@@ -1,7 +1,6 @@
 -- `reserve::plan_class` meets its contract. Assumes nothing.
 use Rattle.classes.proofs.ClassLaws.{pages_read}
 use Rattle.reserve.proofs.PlanLaws.{class_pages, class_at, class_none}
-use borrow.Author.Rules.{rules}
 use Rattle.reserve.proofs.plan_class.Goals as goal
 
 pub find_pages-requires : goal.find_pages-requires

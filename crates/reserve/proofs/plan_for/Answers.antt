@@ -2,7 +2,6 @@
 use Rattle.classes.proofs.ClassLaws.{slots_read}
 use Rattle.records.proofs.AdmitLaws.{admitted}
 use Rattle.reserve.proofs.PlanLaws.{class_low, plan_small, plan_large_lem}
-use borrow.Author.Rules.{rules}
 use native.Mathlib.Omega.{arith}
 use Rattle.reserve.proofs.plan_for.Goals as goal
 

@@ -1,6 +1,5 @@
 -- `reserve::plan_large` meets its contract. Assumes nothing.
 use Rattle.reserve.proofs.PlanLaws.{large_huge, large_run}
-use borrow.Author.Rules.{rules}
 use Rattle.reserve.proofs.plan_large.Goals as goal
 
 pub returns-then-n-gt2093056 : goal.returns-then-n-gt2093056

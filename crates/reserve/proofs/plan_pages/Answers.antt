@@ -1,6 +1,5 @@
 -- `reserve::plan_pages` meets its contract. Assumes nothing.
 use Rattle.reserve.proofs.PlanLaws.{class_low, pages_small, pages_large}
-use borrow.Author.Rules.{rules}
 use Rattle.reserve.proofs.plan_pages.Goals as goal
 
 pub plan_class-requires : goal.plan_class-requires

@@ -1,6 +1,5 @@
 -- `reserve::plan_run` meets its contract. Assumes nothing.
 use Rattle.reserve.proofs.PlanLaws.{run_at, run_none}
-use borrow.Author.Rules.{rules}
 use Rattle.reserve.proofs.plan_run.Goals as goal
 
 pub returns-in-At : goal.returns-in-At

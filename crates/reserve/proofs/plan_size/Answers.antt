@@ -2,7 +2,6 @@
 use Prim.Native.Nat.{◌<◌}
 use Rattle.classes.proofs.ClassLaws.{size_read}
 use Rattle.reserve.proofs.AnswerForms.{low_as, size_as}
-use borrow.Author.Rules.{rules}
 use mathlib.Core.Path.{◌∙◌}
 use Rattle.reserve.proofs.plan_size.Goals as goal
 

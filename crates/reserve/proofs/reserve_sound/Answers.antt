@@ -2,7 +2,6 @@
 use Rattle.blocks.proofs.KeepLaws.{admit_good}
 use Rattle.reserve.proofs.AnswerForms.{plan_good, plan_low, worked}
 use Rattle.reserve.proofs.ReadyLaws.{ready_admit, ready_plan, ready_serve}
-use borrow.Author.Rules.{rules}
 use Rattle.reserve.proofs.reserve_sound.Goals as goal
 
 pub perform_plan-requires : goal.perform_plan-requires

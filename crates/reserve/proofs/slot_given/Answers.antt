@@ -1,6 +1,5 @@
 -- `reserve::slot_given` meets its contract. Assumes nothing.
 use Rattle.reserve.proofs.AnswerForms.{slot_room, slot_is}
-use borrow.Author.Rules.{rules}
 use native.Mathlib.Omega.{arith}
 use Rattle.reserve.proofs.slot_given.Goals as goal
 

@@ -1,11 +1,8 @@
 -- `reserve::slot_page` meets its contract. Assumes nothing.
-use borrow.Author.Rules.{rules}
-use mathlib.Core.Path.{◌≡◌, ◌∙◌, refl}
-use Prim.Native.Nat.{◌*◌, ◌-◌, ◌≤◌}
+use mathlib.Core.Path.{◌∙◌, refl}
 use native.Mathlib.Omega.{arith}
-use Rattle.records.specs.Pool.{pool}
 use Rattle.records.proofs.AdmitLaws.{admitted}
-use Rattle.reserve.proofs.PlanLaws.{Passed, passed_none, passed_on, passed_at, passed_all}
+use Rattle.reserve.proofs.PlanLaws.{passed_none, passed_on, passed_at, passed_all}
 use Rattle.reserve.proofs.slot_page.Goals as goal
 
 pub overflow_mul-end : goal.overflow_mul-end

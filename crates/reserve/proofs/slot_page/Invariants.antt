@@ -1,11 +1,8 @@
 -- `reserve::slot_page` meets its contract. Assumes nothing.
-use borrow.Author.Rules.{rules}
-use mathlib.Core.Path.{◌≡◌, ◌∙◌, refl}
+use mathlib.Core.Path.{◌≡◌}
 use Prim.Native.Nat.{◌*◌, ◌-◌, ◌≤◌}
-use native.Mathlib.Omega.{arith}
 use Rattle.records.specs.Pool.{pool}
-use Rattle.records.proofs.AdmitLaws.{admitted}
-use Rattle.reserve.proofs.PlanLaws.{Passed, passed_none, passed_on, passed_at, passed_all}
+use Rattle.reserve.proofs.PlanLaws.{Passed}
 use Rattle.reserve.proofs.slot_page.Given as goal
 
 abbrev pub invariant-loop-g : goal.invariant-loop-g

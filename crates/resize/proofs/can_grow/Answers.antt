@@ -1,7 +1,6 @@
 -- `resize::can_grow` meets its contract. Assumes nothing.
 use native.Mathlib.Omega.{arith}
 use Rattle.resize.proofs.Forms.{grow_far, grow_near}
-use borrow.Author.Rules.{rules}
 use Rattle.resize.proofs.can_grow.Goals as goal
 
 pub returns-then-g-j-gt512 : goal.returns-then-g-j-gt512

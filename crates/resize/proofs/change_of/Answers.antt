@@ -3,7 +3,6 @@ use Rattle.resize.proofs.Forms.{low_as, change_none, run_big, run_fits, slot_big
 use Prim.Native.Nat.{◌≤◌}
 use Rattle.resize.specs.Settle.{ChunkIn}
 use native.Mathlib.Omega.{arith}
-use borrow.Author.Rules.{rules}
 use Rattle.resize.proofs.change_of.Goals as goal
 
 pub returns-in-Nowhere : goal.returns-in-Nowhere

@@ -1,8 +1,6 @@
 -- `resize::fit_pages` meets its contract. Assumes nothing.
 use native.Mathlib.Omega.{arith}
 use Rattle.resize.proofs.Forms.{pages_same, pages_fewer, pages_free, pages_taken}
-use borrow.Author.Rules.{rules}
-use Rattle.widths.proofs.wide64.Reads as wide64-reads
 use Rattle.resize.proofs.fit_pages.Goals as goal
 
 pub returns-then-j-k : goal.returns-then-j-k

@@ -1,7 +1,6 @@
 -- `resize::fit_run` meets its contract. Assumes nothing.
 use native.Mathlib.Omega.{arith}
 use Rattle.resize.proofs.Forms.{run_small, run_large}
-use borrow.Author.Rules.{rules}
 use Rattle.resize.proofs.fit_run.Goals as goal
 
 pub returns-then-n-le3072 : goal.returns-then-n-le3072

@@ -3,9 +3,6 @@ use mathlib.Core.Path.{◌∙◌}
 use Rattle.classes.proofs.ClassLaws.{size_read}
 use native.Mathlib.Omega.{arith}
 use Rattle.resize.proofs.Forms.{slot_same, slot_other, slot_large}
-use borrow.Author.Rules.{rules}
-use Rattle.widths.proofs.wide16.Reads as wide16-reads
-use Rattle.widths.proofs.wide64.Reads as wide64-reads
 use Rattle.resize.proofs.fit_slot.Goals as goal
 
 pub returns-then-class_of-b : goal.returns-then-class_of-b

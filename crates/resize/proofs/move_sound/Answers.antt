@@ -1,5 +1,4 @@
 -- `resize::move_sound` meets its contract. Assumes nothing.
-use borrow.Author.Rules.{rules}
 use Rattle.blocks.proofs.KeepLaws.{good_admit}
 use Rattle.resize.proofs.Forms.{move_refused, move_good, move_served}
 use Rattle.resize.proofs.move_sound.Goals as goal

@@ -1,6 +1,5 @@
 -- `resize::recut_run` meets its contract. Assumes nothing.
 use Rattle.resize.proofs.Forms.{run_room, pages_room, recut_as}
-use borrow.Author.Rules.{rules}
 use Rattle.resize.proofs.recut_run.Goals as goal
 
 pub free_large-requires : goal.free_large-requires

@@ -1,5 +1,4 @@
 -- `resize::resize_sound` meets its contract. Assumes nothing.
-use borrow.Author.Rules.{rules}
 use Rattle.records.specs.Calls.{admit_of}
 use mathlib.Core.Path.{◌∙◌, ap}
 use Rattle.resize.proofs.Forms.{resize_over, still_there, resize_moves}

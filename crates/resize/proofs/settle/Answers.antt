@@ -1,8 +1,6 @@
 -- `resize::settle` meets its contract. Assumes nothing.
 use native.Mathlib.Omega.{arith}
 use Rattle.resize.proofs.Forms.{spot_low, recut_there, settle_refused, settle_kept, settle_recut, settle_move}
-use borrow.Author.Rules.{rules}
-use Rattle.widths.proofs.wide64.Reads as wide64-reads
 use Rattle.resize.proofs.settle.Goals as goal
 
 pub change_of-requires : goal.change_of-requires

@@ -1,10 +1,7 @@
 -- `sweep::empty_64` meets its contract. Assumes nothing.
-use borrow.Author.Rules.{rules}
 use Prim.Native.Nat.{◌≤◌, ◌-◌}
-use native.Mathlib.Omega.{arith}
 use Rattle.records.specs.Pool.{pool}
-use Rattle.records.proofs.AdmitLaws.{admitted}
-use Rattle.sweep.proofs.MaskLaws.{Marking, marking_none, marking_on, marking_done}
+use Rattle.sweep.proofs.MaskLaws.{Marking}
 use Rattle.sweep.proofs.empty_64.Given as goal
 
 abbrev pub invariant-loop-i : goal.invariant-loop-i

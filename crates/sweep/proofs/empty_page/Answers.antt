@@ -1,5 +1,4 @@
 -- `sweep::empty_page` meets its contract. Assumes nothing.
-use borrow.Author.Rules.{rules}
 use native.Mathlib.Omega.{arith}
 use Rattle.records.proofs.AdmitLaws.{admitted}
 use Rattle.blocks.proofs.KeepLaws.{admit_good}

@@ -1,5 +1,4 @@
 -- `sweep::free_64` meets its contract. Assumes nothing.
-use borrow.Author.Rules.{rules}
 use Rattle.sweep.proofs.FreeLaws.{freed_by}
 use Rattle.sweep.proofs.free_64.Goals as goal
 

@@ -1,10 +1,6 @@
 -- `sweep::free_words` meets its contract. Assumes nothing.
-use borrow.Author.Rules.{rules}
-use Prim.Native.Nat.{◌≤◌, ◌-◌}
 use native.Mathlib.Omega.{arith}
-use mathlib.Core.Logic.{⊎_elim}
 use mathlib.Core.Path.{◌∙◌}
-use Rattle.sweep.specs.Found.{WordsFreed}
 use Rattle.sweep.proofs.FreeLaws.{word_kept, word_freed, freed_none, freed_more, freed_done}
 use Rattle.sweep.proofs.free_words.Goals as goal
 use Rattle.sweep.proofs.free_words.Goals.{then-w-i-eq1, else-w-i-eq1}

@@ -1,13 +1,8 @@
 -- `sweep::give_back` meets its contract. Assumes nothing.
-use borrow.Author.Rules.{rules}
-use mathlib.Core.Logic.{⊎_elim}
 use Prim.Native.Nat.{◌*◌, ◌≤◌, ◌-◌}
-use native.Mathlib.Omega.{arith}
 use Rattle.records.specs.Pool.{pool}
-use Rattle.records.proofs.AdmitLaws.{admitted}
-use Rattle.blocks.proofs.KeepLaws.{admit_good}
 use Rattle.sweep.specs.Sweep.{swept}
-use Rattle.sweep.proofs.SpareLaws.{Giving, giving_none, giving_on, giving_stays, giving_done}
+use Rattle.sweep.proofs.SpareLaws.{Giving}
 use Rattle.sweep.proofs.give_back.Given as goal
 
 abbrev pub invariant-loop-k : goal.invariant-loop-k

@@ -1,6 +1,5 @@
 -- `sweep::idle_page` meets its contract. Assumes nothing.
 use mathlib.Core.Path.{sym, ◌∙◌}
-use borrow.Author.Rules.{rules}
 use borrow.Author.Tests.{eq-eqb, ne_eqb}
 use Rattle.sweep.proofs.MaskLaws.{idle_is}
 use Rattle.sweep.proofs.idle_page.Goals as goal

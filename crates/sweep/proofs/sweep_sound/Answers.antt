@@ -1,5 +1,4 @@
 -- `sweep::sweep_sound` meets its contract. Assumes nothing.
-use borrow.Author.Rules.{rules}
 use Rattle.sweep.proofs.SpareLaws.{gain_answer}
 use Rattle.sweep.proofs.sweep_sound.Goals as goal
 

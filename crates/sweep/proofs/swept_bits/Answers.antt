@@ -1,11 +1,8 @@
 -- `sweep::swept_bits` meets its contract. Assumes nothing.
-use borrow.Author.Rules.{rules}
-use Prim.Native.Nat.{◌*◌, ◌≤◌, ◌-◌}
 use native.Mathlib.Omega.{arith}
-use Rattle.records.specs.Pool.{pool}
 use Rattle.records.proofs.AdmitLaws.{admitted}
 use Rattle.blocks.proofs.KeepLaws.{admit_good}
-use Rattle.sweep.proofs.SpareLaws.{Sparing, sparing_none, sparing_on, sparing_few, sparing_done}
+use Rattle.sweep.proofs.SpareLaws.{sparing_none, sparing_on, sparing_few, sparing_done}
 use Rattle.sweep.proofs.swept_bits.Goals as goal
 
 pub overflow_mul-n : goal.overflow_mul-n

@@ -1,8 +1,5 @@
 -- `sweep::zero_words` meets its contract. Assumes nothing.
-use borrow.Author.Rules.{rules}
-use Prim.Native.Nat.{◌≤◌, ◌-◌}
 use native.Mathlib.Omega.{arith}
-use Rattle.sweep.specs.Found.{WordsFreed}
 use Rattle.sweep.proofs.FreeLaws.{zero_freed, freed_none, freed_more, freed_done}
 use Rattle.sweep.proofs.zero_words.Goals as goal
 

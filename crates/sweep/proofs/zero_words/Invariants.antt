@@ -1,9 +1,6 @@
 -- `sweep::zero_words` meets its contract. Assumes nothing.
-use borrow.Author.Rules.{rules}
 use Prim.Native.Nat.{◌≤◌, ◌-◌}
-use native.Mathlib.Omega.{arith}
 use Rattle.sweep.specs.Found.{WordsFreed}
-use Rattle.sweep.proofs.FreeLaws.{zero_freed, freed_none, freed_more, freed_done}
 use Rattle.sweep.proofs.zero_words.Given as goal
 
 abbrev pub invariant-loop-i : goal.invariant-loop-i

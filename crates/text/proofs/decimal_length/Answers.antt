@@ -1,8 +1,6 @@
 -- `text::decimal_length` meets its contract. Assumes nothing.
-use Rattle.text.proofs.TextLaws.{Digits, digits_first, digits_room, digits_next, digits_full, digits_done}
-use Prim.Native.Nat.{◌-◌}
+use Rattle.text.proofs.TextLaws.{digits_first, digits_room, digits_next, digits_full, digits_done}
 use native.Mathlib.Omega.{arith}
-use borrow.Author.Rules.{rules}
 use Rattle.text.proofs.decimal_length.Goals as goal
 
 pub returns-then-k-eq19 : goal.returns-then-k-eq19

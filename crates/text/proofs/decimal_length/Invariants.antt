@@ -1,8 +1,6 @@
 -- `text::decimal_length` meets its contract. Assumes nothing.
-use Rattle.text.proofs.TextLaws.{Digits, digits_first, digits_room, digits_next, digits_full, digits_done}
+use Rattle.text.proofs.TextLaws.{Digits}
 use Prim.Native.Nat.{◌-◌}
-use native.Mathlib.Omega.{arith}
-use borrow.Author.Rules.{rules}
 use Rattle.text.proofs.decimal_length.Given as goal
 
 abbrev pub invariant-loop-p : goal.invariant-loop-p

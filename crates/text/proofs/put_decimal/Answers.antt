@@ -1,13 +1,11 @@
 -- `text::put_decimal` meets its contract. Assumes nothing.
-use lib.Seq.{sets}
 use lib.ListN.{length-set}
 use Rattle.text.specs.Text.{decimal}
 use Rattle.text.proofs.TextLaws.{digit_turn, digit_done, decimal_length_large, decimal_some}
-use Prim.Native.Nat.{◌+◌, ◌-◌, ◌/◌, ◌≤◌}
+use Prim.Native.Nat.{◌+◌, ◌/◌, ◌≤◌}
 use mathlib.Core.Path.{◌≡◌, refl, ◌∙◌}
 use native.Mathlib.Omega.{arith}
 use lib.ListN.{length}
-use borrow.Author.Rules.{rules}
 use Rattle.text.proofs.put_decimal.Goals as goal
 
 pub loop-m-init : goal.loop-m-init

@@ -1,9 +1,6 @@
 -- `text::put_filled` meets its contract. Assumes nothing.
-use Rattle.text.proofs.TextLaws.{Filling, filling_first, filling_room, filling_next, filling_done}
-use Prim.Native.Nat.{◌-◌, ◌≤◌}
+use Rattle.text.proofs.TextLaws.{filling_first, filling_room, filling_next, filling_done}
 use native.Mathlib.Omega.{arith}
-use lib.ListN.{length}
-use borrow.Author.Rules.{rules}
 use Rattle.text.proofs.put_filled.Goals as goal
 
 pub loop-i-init : goal.loop-i-init

@@ -1,9 +1,7 @@
 -- `text::put_filled` meets its contract. Assumes nothing.
-use Rattle.text.proofs.TextLaws.{Filling, filling_first, filling_room, filling_next, filling_done}
+use Rattle.text.proofs.TextLaws.{Filling}
 use Prim.Native.Nat.{◌-◌, ◌≤◌}
-use native.Mathlib.Omega.{arith}
 use lib.ListN.{length}
-use borrow.Author.Rules.{rules}
 use Rattle.text.proofs.put_filled.Given as goal
 
 abbrev pub invariant-loop-i : goal.invariant-loop-i

@@ -3,7 +3,6 @@ use mathlib.Core.Path.{refl, ap}
 use native.Mathlib.Omega.{arith}
 use Rattle.text.specs.Text.{piece, piece_room}
 use Rattle.text.proofs.TextLaws.{piece_none, piece_number, piece_byte, piece_itself, room_one, decimal_short}
-use borrow.Author.Rules.{rules}
 use Rattle.text.proofs.put_piece.Goals as goal
 
 pub returns-then-b-eq91 : goal.returns-then-b-eq91

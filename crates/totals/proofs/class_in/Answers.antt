@@ -1,6 +1,5 @@
 -- `totals::class_in` meets its contract. Assumes nothing.
 use Rattle.totals.proofs.AmountLaws.{others_zero}
-use borrow.Author.Rules.{rules}
 use Rattle.totals.proofs.class_in.Goals as goal
 
 pub returns-in_default : goal.returns-in_default

@@ -1,12 +1,9 @@
 -- `totals::live_amount` meets its contract. Assumes nothing.
-use borrow.Author.Rules.{rules}
-use mathlib.Core.Path.{◌≡◌, refl}
-use Prim.Native.Nat.{◌-◌, ◌*◌, ◌≤◌}
+use mathlib.Core.Path.{refl}
 use native.Mathlib.Omega.{arith}
 use Rattle.classes.proofs.ClassLaws.{row_read}
-use Rattle.records.specs.Pool.{pool}
 use Rattle.records.proofs.AdmitLaws.{admitted}
-use Rattle.totals.proofs.AmountLaws.{told_few, Counted, counted_start, counted_on, counted_done, bounded}
+use Rattle.totals.proofs.AmountLaws.{told_few, counted_start, counted_on, counted_done, bounded}
 use Rattle.totals.proofs.live_amount.Goals as goal
 
 pub overflow_mul-n : goal.overflow_mul-n

@@ -1,6 +1,5 @@
 -- `totals::live_count` meets its contract. Assumes nothing.
 use Rattle.totals.proofs.AmountLaws.{count_as}
-use borrow.Author.Rules.{rules}
 use Rattle.totals.proofs.live_count.Goals as goal
 
 pub returns : goal.returns

@@ -2,7 +2,6 @@
 use native.Mathlib.Omega.{arith}
 use Rattle.records.proofs.KindLaws.{others_bare}
 use Rattle.totals.proofs.AmountLaws.{amount_none, amount_large, amount_class, row_as, slots_few, bytes_few, large_few}
-use borrow.Author.Rules.{rules}
 use Rattle.totals.proofs.page_amount.Goals as goal
 
 pub count_bits-n-requires : goal.count_bits-n-requires

@@ -3,7 +3,6 @@ use mathlib.Core.Path.{refl}
 use native.Mathlib.Omega.{arith}
 use Rattle.records.proofs.AdmitLaws.{admitted}
 use Rattle.totals.proofs.PageLaws.{free_read, totals_made}
-use borrow.Author.Rules.{rules}
 use Rattle.totals.proofs.totals_sound.Goals as goal
 
 pub overflow_mul-n : goal.overflow_mul-n

@@ -1,7 +1,6 @@
 -- `wording::put_last` meets its contract. Assumes nothing.
 use native.Mathlib.Omega.{arith}
 use Rattle.wording.proofs.WordLaws.{last_live, last_refused}
-use borrow.Author.Rules.{rules}
 use Rattle.wording.proofs.put_last.Goals as goal
 
 pub returns-then-refusal-eq0 : goal.returns-then-refusal-eq0

@@ -4,7 +4,6 @@ use native.Mathlib.Omega.{arith}
 use Rattle.events.specs.Doing.{event_bytes}
 use Rattle.wording.specs.Wording.{line_of}
 use Rattle.wording.proofs.WordLaws.{line_as, line_none}
-use borrow.Author.Rules.{rules}
 use Rattle.wording.proofs.put_line.Goals as goal
 
 pub put_filled-requires : goal.put_filled-requires
