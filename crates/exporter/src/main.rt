@@ -28,7 +28,7 @@ fn tell_field(rt: &impl Eprint, refusal: u64, position: u64) {
 fn main(rt: HostRuntime) {
     let mut log = log_room();
     let mut text = text_room();
-    let n = streams::read_full(&mut rt.stdin(), &mut log);
+    let (n, _) = streams::read_full(&mut rt.stdin(), &mut log);
     if 1048576 < n {
         tell(&rt, "the log is longer than 1048576 bytes");
         return;

@@ -28,7 +28,7 @@ fn tell_line(rt: &impl Eprint, line: u64, refusal: u64) {
 fn main(rt: HostRuntime) {
     let mut text = text_room();
     let mut log = log_room();
-    let n = streams::read_full(&mut rt.stdin(), &mut text);
+    let (n, _) = streams::read_full(&mut rt.stdin(), &mut text);
     if 1048576 < n {
         tell(&rt, "the text is longer than 1048576 bytes");
         return;

@@ -5,7 +5,7 @@ ghost use Rattle.std.specs.Prelude.{◌≡◌};
 ghost use Rattle.records.specs.Lent.{before, after};
 ghost use Rattle.records.specs.Calls.{leaves, fresh_of};
 ghost use Rattle.replay.specs.Run.{replay_of};
-ghost use Rattle.readlog.specs.Input.{FromLog};
+ghost use Rattle.readlog.specs.Input.{FromLog, FromInput};
 
 use std::io::Read;
 
@@ -41,10 +41,11 @@ pub fn replay_input<R: Read, E: Eprint>(
     words: &mut [u32],
     slots: &mut [u64],
 )
-    ensures { FromLog (before bits.old words.old slots.old) (after bits.new words.new slots.new) }
+    ensures from_log { FromLog (before bits.old words.old slots.old) (after bits.new words.new slots.new) }
+    ensures from_input { FromInput (R.remaining input.old) (R.remaining input.new) (before bits.old words.old slots.old) (after bits.new words.new slots.new) }
 {
     let mut log = [0u8; 16384];
-    let n = streams::read_full(input, &mut log);
+    let (n, _) = streams::read_full(input, &mut log);
     let r = replay_fresh(bits, words, slots, &log[..n]);
     tell(errors, r);
 }

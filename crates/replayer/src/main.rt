@@ -4,7 +4,7 @@
 
 fn main(rt: HostRuntime) {
     let mut log = [0u8; 16384];
-    let n = streams::read_full(&mut rt.stdin(), &mut log);
+    let (n, _) = streams::read_full(&mut rt.stdin(), &mut log);
     let mut bits = [0u64; 8];
     let mut words = [0u32; 512];
     let mut slots = [0u64; 4096];
