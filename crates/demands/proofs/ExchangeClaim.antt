@@ -28,7 +28,7 @@ use Rattle.writer.specs.Append.{placed, appended, append_of, tags, tagged, appen
 use Rattle.exchange.specs.declared.Imported.{Imported}
 use Rattle.exchange.specs.declared.Exported.{Exported}
 use Rattle.exchange.specs.Exchange.{number_of, position_of, imported, import_of, plain, exported, export_of}
-use Rattle.exchange.specs.Trips.{Imports, good_lines, bad_line_lem}
+use Rattle.exchange.specs.Trips.{Imports, good_lines, bad_lines}
 use Rattle.exchange.proofs.ReadLaws.{imports}
 use Rattle.demands.specs.Demand1.{append_first, ImportRefuses, ExportRefuses}
 use Rattle.demands.specs.Demand2.{Plays, log_done, log_refused, other_count, start_field, reserve_field, release_field, resize_field, end_field}
@@ -83,7 +83,7 @@ import_by text out x (good_lines {f} {l} lines) =
     placed_cases (ImportRefuses out) (λ r n. imported r 0 n) out 0 (row written (f ∷ l ++ (End ∷ [])))
     (record { number = inr (inr refl); unchanged = λ r e. ap (λ (k : ℕ). leaves (imported k 0 0) out) e; line = λ _. refl })
     (λ n after. record { number = inl refl; unchanged = λ r e. absurd (omega arith); line = λ _. refl })
-import_by text out x (bad_line_lem {l} lines none some) =
+import_by text out x (bad_lines {l} lines none some) =
     record {
       number = inr (inl refl);
       unchanged = λ r e. ap (λ (k : ℕ). leaves (imported k (suc (length l)) 0) out) e;
