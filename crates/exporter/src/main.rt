@@ -1,4 +1,5 @@
-// Exports the log on standard input, and writes the vendor's text to standard output. At most 1,048,576 bytes are read.
+// Exports the log on standard input, and writes the vendor's text to standard output. At most 1,048,576 bytes are
+// read; a read that fails counts as the end.
 #![tactic(auto)]
 
 ghost use Rattle.std.specs.Prelude.{◌≡◌, length};

@@ -1,4 +1,5 @@
-// Imports the vendor's text on standard input, and writes its log to standard output. At most 1,048,576 bytes are read.
+// Imports the vendor's text on standard input, and writes its log to standard output. At most 1,048,576 bytes are read;
+// a read that fails counts as the end.
 #![tactic(auto)]
 
 ghost use Rattle.std.specs.Prelude.{◌≡◌, length};

@@ -11,8 +11,8 @@ pub record FromLog (p q : Pool) : Type 0 where
   pub short : length log ≤ 16384
   pub left : q ≡ (replay_of 1 (fresh_of 1 p).left log).left
 
--- The same of a log that was taken from an input, where it is known what bytes are to be read: those before, of which those after are left. That
--- the log is standard input's no contract can say: nothing is known of the bytes that a read of that gives
+-- The same of a log that was taken from the front of an input's bytes, where these are known: those that were left in it before and after. That
+-- the log is standard input no contract can say: nothing is known of the bytes that a read of that gives
 pub record FromInput (known after : Option (List ℕ)) (p q : Pool) : Type 0 where
   pub log : List ℕ
   pub short : length log ≤ 16384

@@ -1,4 +1,5 @@
-// The log on standard input, replayed in a pool of one chunk. The first 16,384 bytes are read; the rest counts as missing.
+// The log that an input gives, replayed in a pool of one chunk. The first 16,384 bytes are read; the rest counts as missing, and so does
+// what stands behind a read that fails.
 #![tactic(auto)]
 
 ghost use Rattle.std.specs.Prelude.{◌≡◌};
@@ -22,7 +23,7 @@ fn replay_fresh(
     replay::replay(1, bits, words, slots, log)
 }
 
-// A line on standard error tells of a refusal.
+// A line on standard error tells of a refusal; one that cannot be written is left out.
 fn tell(errors: &impl Eprint, r: replay::Replayed) {
     if r.refusal == 0 {
         return;
@@ -42,7 +43,8 @@ pub fn replay_input<R: Read, E: Eprint>(
     slots: &mut [u64],
 )
     ensures from_log { FromLog (before bits.old words.old slots.old) (after bits.new words.new slots.new) }
-    ensures from_input { FromInput (R.remaining input.old) (R.remaining input.new) (before bits.old words.old slots.old) (after bits.new words.new slots.new) }
+    ensures from_input { FromInput (R.remaining input.old) (R.remaining input.new)
+        (before bits.old words.old slots.old) (after bits.new words.new slots.new) }
 {
     let mut log = [0u8; 16384];
     let (n, _) = streams::read_full(input, &mut log);

@@ -1,5 +1,5 @@
 // Replays the log on standard input in a pool of one chunk, and writes its lines to standard output. The first 16,384 bytes are read; the
-// rest counts as missing.
+// rest counts as missing, and so does what stands behind a read that fails.
 #![tactic(auto)]
 
 fn main(rt: HostRuntime) {

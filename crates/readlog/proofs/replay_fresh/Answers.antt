@@ -1,6 +1,5 @@
 -- `readlog::replay_fresh` meets its contract. Assumes nothing.
 use Rattle.readlog.proofs.InputLaws.{fresh_replayed}
-use borrow.Author.Rules.{rules}
 use Rattle.readlog.proofs.replay_fresh.Goals as goal
 
 pub returns : goal.returns

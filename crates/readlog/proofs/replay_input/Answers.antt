@@ -6,5 +6,5 @@ use Rattle.readlog.proofs.replay_input.Goals as goal
 pub returns : goal.returns
 returns g c = record {
   from_log = from_read _ _ _ c.replay_fresh-r.ensures (omega arith);
-  from_input = from_taken _ _ _ c.replay_fresh-r.ensures (omega arith) c.read_full.ensures.taken;
+  from_input = from_taken _ _ _ c.replay_fresh-r.ensures (omega arith) c.read_full-n.ensures.taken;
 }
