@@ -121,7 +121,7 @@ cut_offset {b} {z} {n} {s} k l =
 
 -- ---- the smallest class that holds a size
 
--- the k that firstHolding finds in the rows rs, counted from b: k is b + length rs where no row holds n bytes
+-- the k that first_holding finds in the rows rs, counted from b: k is b + length rs where no row holds n bytes
 record First (rs : List Row) (b n k : ℕ) : Type 0 where
   low : b ≤ k
   most : k ≤ b + length rs

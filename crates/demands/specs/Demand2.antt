@@ -183,7 +183,7 @@ pub data Nexts (c : ℕ) (p : Pool) (q : ℕ) : next.Next → Type 0 where
 -- ---- replay (RULES 8)
 
 -- what the fields of a log do, from a cursor on: the calls with their answers, the number and position at the end, and the pool that is left.
--- `readAt log k` is the field at a cursor, with the cursor behind it, or what ends the log (RULES 7.3)
+-- `read_at log k` is the field at a cursor, with the cursor behind it, or what ends the log (RULES 7.3)
 pub data Plays (c : ℕ) (log : List ℕ) : Cursor → Pool → Run → Type 0 where
   -- the log is accepted
   log_done : {k : Cursor} {p : Pool} → read_at log k ≡ Done → Plays c log k p (ended 0 0 p)
@@ -291,7 +291,7 @@ pub record Demand2 : Type 0 where
   pub follows : (c : ℕ) (p : Pool) → Good c p → Follows c p
   -- fresh is served wherever the shape is right, whatever the buffers held: what it leaves is sound, and has no live block
   pub fresh : (c : ℕ) (p : Pool) → fit c p ≡ true → ((fresh_of c p).answer ≡ 0) × Good c (fresh_of c p).left × (live c (fresh_of c p).left ≡ [])
-  -- and there a replay runs as its rules say: `replayOf` and `printedOf` tell and leave this run
+  -- and there a replay runs as its rules say: `replay_of` and `printed_of` tell and leave this run
   pub replay : (c : ℕ) (p : Pool) (log : List ℕ) → fit c p ≡ true → (x : Run) → Plays c log outset p x ↔ (run_of c p log ≡ x)
   -- so the log of any calls is accepted, and does these calls on a fresh pool
   pub log : (c : ℕ) (p : Pool) (calls : List Field) → fit c p ≡ true → ((f : Field) → Memᴰ f calls → Loggable f)

@@ -1,4 +1,4 @@
--- `bytes::bytes` meets its contract. Assumes nothing.
+-- `blockbytes::bytes` meets its contract. Assumes nothing.
 use Prim.Native.Nat.{◌^◌}
 use native.Mathlib.Omega.{arith}
 use Rattle.blockbytes.proofs.PartLaws.{ends_left, ends_right, ends_low, bytes_left, bytes_right}

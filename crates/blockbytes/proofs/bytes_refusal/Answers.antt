@@ -1,4 +1,4 @@
--- `bytes::bytes_refusal` meets its contract. Assumes nothing.
+-- `blockbytes::bytes_refusal` meets its contract. Assumes nothing.
 use Rattle.blockbytes.proofs.PartLaws.{refusal_as}
 use Rattle.blockbytes.proofs.bytes_refusal.Goals as goal
 

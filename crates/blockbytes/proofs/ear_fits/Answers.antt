@@ -1,4 +1,4 @@
--- `bytes::ear_fits` meets its contract. Assumes nothing.
+-- `blockbytes::ear_fits` meets its contract. Assumes nothing.
 use native.Mathlib.Omega.{arith}
 use Rattle.blockbytes.proofs.PartLaws.{fits_left, fits_right, fits_neither}
 use Rattle.blockbytes.proofs.ear_fits.Goals as goal

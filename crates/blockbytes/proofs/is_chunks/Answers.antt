@@ -1,4 +1,4 @@
--- `bytes::is_chunks` meets its contract. Assumes nothing.
+-- `blockbytes::is_chunks` meets its contract. Assumes nothing.
 use Rattle.blockbytes.proofs.PartLaws.{chunks_none, chunks_as}
 use Rattle.blockbytes.proofs.is_chunks.Goals as goal
 

@@ -1,4 +1,4 @@
--- `bytes::part_of` meets its contract. Assumes nothing.
+-- `blockbytes::part_of` meets its contract. Assumes nothing.
 use Rattle.release.proofs.GiveLaws.{size_refused, size_served}
 use Rattle.blockbytes.proofs.PartLaws.{part_unfit, part_refused, part_served}
 use Rattle.blockbytes.proofs.part_of.Goals as goal
