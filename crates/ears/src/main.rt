@@ -4,8 +4,6 @@
 
 ghost use Rattle.std.specs.Prelude.{◌≡◌, ◌≤◌, length};
 
-use std::io;
-
 // An arena of one chunk, before anything is written into it.
 fn blank() -> [u8; 2097152]
     ensures { 2097152 ≡ length result }
@@ -30,8 +28,9 @@ fn mark_blocks(arena: &mut [u8], ear: u64)
 }
 
 // A number behind its name.
-fn tell(rt: &impl Print, name: &str, n: u64) -> io::Result<()> {
-    print!(rt; "{name}{n}")
+fn tell(rt: &impl Print, name: &[u8], n: u64) {
+    let _ = rt.write_all(name);
+    let _ = print!(rt; "{n}");
 }
 
 // One question in one line: what is asked, the number, and the part's length and first bytes.
@@ -45,20 +44,20 @@ fn ask<'a>(
     q: u64,
     left: &'a [u8],
     right: &'a [u8],
-) -> io::Result<()> {
+) {
     let r = blockbytes::bytes_refusal(ear, c, bits, words, slots, q, left, right);
     let part = blockbytes::bytes(ear, c, bits, words, slots, q, left, right);
-    tell(rt, "ear ", ear)?;
-    tell(rt, " chunks ", c)?;
-    tell(rt, " arenas ", widths::wide64(left.len()))?;
-    tell(rt, " ", widths::wide64(right.len()))?;
-    tell(rt, " place ", q)?;
-    tell(rt, ": refusal ", r)?;
-    tell(rt, " length ", widths::wide64(part.len()))?;
-    print!(rt; " \"")?;
+    tell(rt, b"ear ", ear);
+    tell(rt, b" chunks ", c);
+    tell(rt, b" arenas ", widths::wide64(left.len()));
+    tell(rt, b" ", widths::wide64(right.len()));
+    tell(rt, b" place ", q);
+    tell(rt, b": refusal ", r);
+    tell(rt, b" length ", widths::wide64(part.len()));
+    let _ = rt.write_all(b" \"");
     let n = part.len().min(16);
-    rt.write_all(&part[..n])?;
-    println!(rt; "\"")
+    let _ = rt.write_all(&part[..n]);
+    let _ = rt.write_all(b"\"\n");
 }
 
 // What is asked of either ear while its records are sound.
@@ -70,40 +69,34 @@ fn ask_sound<'a>(
     slots: &[u64],
     left: &'a [u8],
     right: &'a [u8],
-) -> io::Result<()> {
-    ask(rt, ear, 1, bits, words, slots, 4096, left, right)?;
-    ask(rt, ear, 1, bits, words, slots, 4120, left, right)?;
-    ask(rt, ear, 1, bits, words, slots, 4130, left, right)?;
-    ask(rt, ear, 1, bits, words, slots, 8192, left, right)?;
-    ask(rt, ear, 1, bits, words, slots, 14336, left, right)?;
-    ask(rt, ear, 2, bits, words, slots, 8192, left, right)?;
-    ask(rt, 2, 1, bits, words, slots, 8192, left, right)?;
+) {
+    ask(rt, ear, 1, bits, words, slots, 4096, left, right);
+    ask(rt, ear, 1, bits, words, slots, 4120, left, right);
+    ask(rt, ear, 1, bits, words, slots, 4130, left, right);
+    ask(rt, ear, 1, bits, words, slots, 8192, left, right);
+    ask(rt, ear, 1, bits, words, slots, 14336, left, right);
+    ask(rt, ear, 2, bits, words, slots, 8192, left, right);
+    ask(rt, 2, 1, bits, words, slots, 8192, left, right);
     // only the chosen arena's length is checked
     let none = &left[..0];
-    ask(rt, ear, 1, bits, words, slots, 8192, left, none)?;
-    ask(rt, ear, 1, bits, words, slots, 8192, none, right)
+    ask(rt, ear, 1, bits, words, slots, 8192, left, none);
+    ask(rt, ear, 1, bits, words, slots, 8192, none, right);
 }
 
 // An ear whose pool is what the log leaves; then that pool without the word of the run at page 2.
-fn ask_ear<'a>(
-    rt: &impl Print,
-    ear: u64,
-    log: &[u8],
-    left: &'a [u8],
-    right: &'a [u8],
-) -> io::Result<()> {
+fn ask_ear<'a>(rt: &impl Print, ear: u64, log: &[u8], left: &'a [u8], right: &'a [u8]) {
     let mut bits = [0; 8];
     let mut words = [0; 512];
     let mut slots = [0; 4096];
     replay::replay(1, &mut bits, &mut words, &mut slots, log);
-    ask_sound(rt, ear, &bits, &words, &slots, left, right)?;
+    ask_sound(rt, ear, &bits, &words, &slots, left, right);
     words[2] = 0;
-    println!(rt; "page word 2 is lost")?;
-    ask(rt, ear, 1, &bits, &words, &slots, 4096, left, right)?;
-    ask(rt, ear, 2, &bits, &words, &slots, 4096, left, right)
+    let _ = rt.write_all(b"page word 2 is lost\n");
+    ask(rt, ear, 1, &bits, &words, &slots, 4096, left, right);
+    ask(rt, ear, 2, &bits, &words, &slots, 4096, left, right);
 }
 
-fn main(rt: HostRuntime) -> io::Result<()> {
+fn main(rt: HostRuntime) {
     let mut left = blank();
     let mut right = blank();
     mark_blocks(&mut left, 0);
@@ -120,7 +113,7 @@ fn main(rt: HostRuntime) -> io::Result<()> {
         \x04\0\0",
         &left,
         &right,
-    )?;
+    );
     // start 1; reserve 24, 3000; end
     ask_ear(
         &rt,
