@@ -31,7 +31,7 @@ pub is_set-requires : goal.is_set-requires
 is_set-requires c =
     let low = c.requires.low in let long = c.requires.long in let class = c.requires.class in let size = c.requires.size in let count = c.requires.count in
     let k : Cut _ _ _ = record { size_is = size; slots_is = count } in let s = cut_few k in
-    let l = c.if-count-s.false in omega arith
+    let within = c.if-count-s.false in omega arith
 
 pub returns-then-is_set : goal.returns-then-is_set
 returns-then-is_set c =
