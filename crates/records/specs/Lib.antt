@@ -5,3 +5,4 @@ pub mod Sound
 pub mod Slots
 pub mod Calls
 pub mod Runs
+pub mod Read

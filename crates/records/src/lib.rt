@@ -1,11 +1,11 @@
 // The records of a pool: what page words mean, how they are written, and what sound records promise. Definitions in specs/, laws in proofs/.
 #![tactic(auto)]
 
-ghost use Rattle.std.specs.Prelude.{◌≡◌, ◌+◌, ◌*◌, ◌≤◌, ◌<◌, eqb, length, true};
+ghost use Rattle.std.specs.Prelude.{◌≡◌, ◌+◌, ◌*◌, ◌≤◌, ◌<◌, ◌^◌, eqb, length, slice_index, true};
 ghost use Rattle.records.specs.declared.Kind.TheVariants.{Class};
 ghost use Rattle.records.specs.Kinds.{edge_word, large_word, class_word, inner_word, is_run_of, in_class, ClassPart};
 ghost use Rattle.records.specs.Pool.{kind_at};
-ghost use Rattle.records.specs.Lent.{lent, before};
+ghost use Rattle.records.specs.Lent.{lent};
 ghost use Rattle.records.specs.Slots.{slots_clear};
 ghost use Rattle.records.specs.Calls.{shaped, admit_of};
 ghost use Rattle.records.specs.Runs.{Lies, SoundRecords};
@@ -71,90 +71,110 @@ pub fn inner_word(b: usize, k: usize) -> u32
 
 // ---- what they mean
 
-// What page g is, on records that are sound: there a word means one thing only, and the page bit tells a free page from one inside a large
-// run. The words at which nothing begins come first: where a caller takes them alike, that is one comparison.
-pub fn kind_at(c: u64, bits: &[u64], words: &[u32], slots: &[u64], g: usize) -> Kind
-    requires { (admit_of c (lent bits.now words.now slots.now) ≡ 0) × (g < 512 * c) }
-    ensures { result ≡ kind_at (before bits.now words.now slots.now) g }
-{
-    let w = words[g];
-    if 0xC0000000 <= w {
-        return Kind::Inner(w);
+// The records of a pool of so many chunks, lent to be read, which are sound. There a word means one thing only.
+#[derive(Clone, Copy)]
+pub struct Records<'a> {
+    pub chunks: u64,
+    pub bits: &'a [u64],
+    pub words: &'a [u32],
+    pub slots: &'a [u64],
+    pub ghost sound: { admit_of chunks (lent bits.now words.now slots.now) ≡ 0 },
+}
+
+impl Records<'_> {
+    ghost use Rattle.records.specs.Read.{pool_of};
+
+    // The word of page g.
+    fn word(&self, g: usize) -> u32
+        requires { g < 512 * self.now.chunks }
+        ensures value { result ≡ slice_index self.now.words.now g }
+        ensures low { result < 2 ^ 32 }
+    {
+        self.words[g]
     }
-    if w < 0x40000001 {
-        if bitrow::is_set(bits, g) {
-            return Kind::Inner(0);
+
+    // What page g is. The page bit tells a free page from one inside a large run. The words at which nothing begins come first: where a
+    // caller takes them alike, that is one comparison.
+    pub fn kind_at(&self, g: usize) -> Kind
+        requires { g < 512 * self.now.chunks }
+        ensures { result ≡ kind_at (pool_of self.now) g }
+    {
+        let w = self.word(g);
+        if 0xC0000000 <= w {
+            return Kind::Inner(w);
         }
-        return Kind::Free;
+        if w < 0x40000001 {
+            if bitrow::is_set(self.bits, g) {
+                return Kind::Inner(0);
+            }
+            return Kind::Free;
+        }
+        if 0x80000000 <= w {
+            return Kind::Class((w - 0x80000000) as usize);
+        }
+        if g % 512 == 0 {
+            return Kind::Edge;
+        }
+        Kind::Large((w - 0x40000001) as usize)
     }
-    if 0x80000000 <= w {
-        return Kind::Class((w - 0x80000000) as usize);
-    }
-    if g % 512 == 0 {
-        return Kind::Edge;
-    }
-    Kind::Large((w - 0x40000001) as usize)
-}
 
-// Whether a run of class b starts at page g, on records that are sound: one comparison, for searches that go over all pages.
-pub fn is_run_of(c: u64, bits: &[u64], words: &[u32], slots: &[u64], g: usize, b: usize) -> bool
-    requires sound { admit_of c (lent bits.now words.now slots.now) ≡ 0 }
-    requires inside { g < 512 * c }
-    requires class { b < 30 }
-    ensures { result ≡ is_run_of b (kind_at (before bits.now words.now slots.now) g) }
-{
-    words[g] == class_word(b)
-}
-
-// Whether page g lies in a class run, on records that are sound.
-pub fn in_class(c: u64, bits: &[u64], words: &[u32], slots: &[u64], g: usize) -> bool
-    requires { (admit_of c (lent bits.now words.now slots.now) ≡ 0) × (g < 512 * c) }
-    ensures { result ≡ in_class (kind_at (before bits.now words.now slots.now) g) }
-{
-    0x80000000 <= words[g]
-}
-
-// The class run in which page g lies, on records that are sound: a page's word has the way to the run's first page, which is 0 there, and the
-// class.
-pub fn class_run(c: u64, bits: &[u64], words: &[u32], slots: &[u64], g: usize) -> ClassRun
-    requires sound { admit_of c (lent bits.now words.now slots.now) ≡ 0 }
-    requires inside { g < 512 * c }
-    requires class { in_class (kind_at (lent bits.now words.now slots.now) g) ≡ true }
-    ensures { Lies (before bits.now words.now slots.now) g result.first (Class result.class) }
-{
-    let w = words[g];
-    let k = ((w / 65536) % 16384) as usize;
-    ClassRun {
-        first: g - k,
-        class: (w % 65536) as usize,
+    // Whether a run of class b starts at page g: one comparison, for searches that go over all pages.
+    pub fn is_run_of(&self, g: usize, b: usize) -> bool
+        requires inside { g < 512 * self.now.chunks }
+        requires class { b < 30 }
+        ensures { result ≡ is_run_of b (kind_at (pool_of self.now) g) }
+    {
+        self.word(g) == class_word(b)
     }
-}
 
-// What page g lies in, on records that are sound. A page of a class run is told by the run's first page; any other page by itself.
-pub fn home_at(c: u64, bits: &[u64], words: &[u32], slots: &[u64], g: usize) -> Home
-    requires { (admit_of c (lent bits.now words.now slots.now) ≡ 0) × (g < 512 * c) }
-    ensures { Lies (before bits.now words.now slots.now) g result.first result.kind }
-{
-    if in_class(c, bits, words, slots, g) {
-        let r = class_run(c, bits, words, slots, g);
-        return Home {
-            first: r.first,
-            kind: Kind::Class(r.class),
-        };
+    // Whether page g lies in a class run.
+    pub fn in_class(&self, g: usize) -> bool
+        requires { g < 512 * self.now.chunks }
+        ensures { result ≡ in_class (kind_at (pool_of self.now) g) }
+    {
+        0x80000000 <= self.word(g)
     }
-    Home {
-        first: g,
-        kind: kind_at(c, bits, words, slots, g),
-    }
-}
 
-// Which part of a class run page g is, on records that are sound: 2 its first page, 3 one behind it, less where it is none. For passes over
-// all pages that go by this alone, without a branch.
-pub fn class_part(c: u64, bits: &[u64], words: &[u32], slots: &[u64], g: usize) -> u32
-    requires { (admit_of c (lent bits.now words.now slots.now) ≡ 0) × (g < 512 * c) }
-    ensures { ClassPart result (kind_at (before bits.now words.now slots.now) g) }
-{
-    words[g] / 0x40000000
+    // The class run in which page g lies: a page's word has the way to the run's first page, which is 0 there, and the class.
+    pub fn class_run(&self, g: usize) -> ClassRun
+        requires inside { g < 512 * self.now.chunks }
+        requires class { in_class (kind_at (pool_of self.now) g) ≡ true }
+        ensures { Lies (pool_of self.now) g result.first (Class result.class) }
+    {
+        let w = self.word(g);
+        let k = ((w / 65536) % 16384) as usize;
+        ClassRun {
+            first: g - k,
+            class: (w % 65536) as usize,
+        }
+    }
+
+    // What page g lies in. A page of a class run is told by the run's first page; any other page by itself.
+    pub fn home_at(&self, g: usize) -> Home
+        requires { g < 512 * self.now.chunks }
+        ensures { Lies (pool_of self.now) g result.first result.kind }
+    {
+        if self.in_class(g) {
+            let r = self.class_run(g);
+            return Home {
+                first: r.first,
+                kind: Kind::Class(r.class),
+            };
+        }
+        Home {
+            first: g,
+            kind: self.kind_at(g),
+        }
+    }
+
+    // Which part of a class run page g is: 2 its first page, 3 one behind it, less where it is none. For passes over all pages that go by
+    // this alone, without a branch.
+    pub fn class_part(&self, g: usize) -> u32
+        requires { g < 512 * self.now.chunks }
+        ensures { ClassPart result (kind_at (pool_of self.now) g) }
+    {
+        self.word(g) / 0x40000000
+    }
 }
 
 // 0 when page g has no slot bit: its eight slot words at once, without a branch.
