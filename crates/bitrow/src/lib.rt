@@ -2,7 +2,7 @@
 // value as an argument where it has one.
 #![tactic(auto)]
 
-ghost use Rattle.std.specs.Prelude.{◌≡◌, ℕ, ◌+◌, ◌-◌, ◌*◌, ◌%◌, ◌^◌, ◌<◌, ◌≤◌, min, not, length};
+ghost use Rattle.std.specs.Prelude.{◌≡◌, ℕ, ◌+◌, ◌-◌, ◌*◌, ◌%◌, ◌^◌, ◌<◌, ◌≤◌, not, length};
 ghost use Rattle.bitrow.specs.Row.{digit, is_set, Lowest, next_bit, word_put, put_bit, put_bits, count_bits};
 ghost use Rattle.bitrow.specs.Mask.{mask_of, with_mask};
 
@@ -19,14 +19,14 @@ pub fn is_set(words: &[u64], i: usize) -> bool
 pub fn first_zero(w: u64) -> u32
     ensures { Lowest 64 w 0 result }
 {
-    u64::trailing_zeros(std::num::wrapping_add_u64(w, 1))
+    w.wrapping_add(1).trailing_zeros()
 }
 
 // The place of the lowest 1 bit of a word, 64 where all are 0.
 pub fn first_one(w: u64) -> u32
     ensures { Lowest 64 w 1 result }
 {
-    u64::trailing_zeros(w)
+    w.trailing_zeros()
 }
 
 // The place of the lowest bit v of a word, 64 where it has none.
@@ -36,31 +36,18 @@ fn first_bit(w: u64, v: bool) -> u32
     if v { first_one(w) } else { first_zero(w) }
 }
 
-// 1 where so, else 0.
-fn one_if(so: bool) -> u64
-    ensures { result ≡ digit so }
-{
-    if so { 1 } else { 0 }
-}
-
 // The word without its lowest 1 bit, if so; it has one. One less than the word has a 0 there and 1 bits below.
 pub fn without_lowest(w: u64, so: bool) -> u64
     requires { 1 ≤ w }
     ensures { (t : ℕ) → Lowest 64 w 1 t → result ≡ word_put (digit (not so)) w t }
 {
-    w & (w - one_if(so))
-}
-
-// The lesser of two numbers.
-pub fn least(a: usize, b: usize) -> usize
-    ensures { result ≡ min a b }
-{
-    if a < b { a } else { b }
+    w & (w - u64::from(so))
 }
 
 // The first place in from..to whose bit is v, or `to` where there is none. The shift brings zeros in from the top: a bit found among
 // those is in no place of the word, so only one below `left` counts. The last word is read to its end, and what lies behind `to` is cut
-// off at the return: so a turn needs no second bound, and long searches are quicker.
+// off at the return: so a turn needs no second bound, and long searches are quicker. A turn goes to the end of its word: a `for` over the
+// words, each cut to from..to, takes longer where the first word decides, as it mostly does.
 pub fn next_bit(words: &[u64], from: usize, to: usize, v: bool) -> usize
     requires order { from ≤ to }
     requires long { to ≤ 64 * length words.now }
@@ -74,9 +61,9 @@ pub fn next_bit(words: &[u64], from: usize, to: usize, v: bool) -> usize
         let w = words[q / 64];
         let t = first_bit(w >> o, v) as usize;
         if t < left {
-            return least(q + t, to);
+            return (q + t).min(to);
         }
-        q = q + left;
+        q += left;
     }
     to
 }
@@ -117,7 +104,8 @@ pub fn put_bit(words: &mut [u64], i: usize, v: bool)
     put_in_word(words, i, 1, v);
 }
 
-// Puts v at the n places from `from` on, a word or the part of one at a time.
+// Puts v at the n places from `from` on, a word or the part of one at a time. A `for` over the words would cut each to these places too, and
+// ask first whether there are any.
 pub fn put_bits(words: &mut [u64], from: usize, n: usize, v: bool)
     requires { (from + n ≤ 64 * length words.old) × (from + n < 2 ^ 32) }
     ensures { words.new ≡ put_bits (digit v) words.old from n }
@@ -125,13 +113,13 @@ pub fn put_bits(words: &mut [u64], from: usize, n: usize, v: bool)
     let to = from + n;
     let mut i = from;
     while i < to {
-        let m = least(to - i, 64 - i % 64);
+        let m = (to - i).min(64 - i % 64);
         put_in_word(words, i, m, v);
-        i = i + m;
+        i += m;
     }
 }
 
-// How many of the n bits from `from` on are 1, a word or the part of one at a time.
+// How many of the n bits from `from` on are 1, a word or the part of one at a time. A `for` over the words is no plainer, as in `put_bits`.
 pub fn count_bits(words: &[u64], from: usize, n: usize) -> usize
     requires { (from + n ≤ 64 * length words.now) × (from + n < 2 ^ 32) }
     ensures { result ≡ count_bits words.now from n }
@@ -141,10 +129,10 @@ pub fn count_bits(words: &[u64], from: usize, n: usize) -> usize
     let mut i = from;
     while i < to {
         let o = i % 64;
-        let m = least(to - i, 64 - o);
+        let m = (to - i).min(64 - o);
         let b = mask(o, m);
-        sum = sum + u64::count_ones(words[i / 64] & b) as usize;
-        i = i + m;
+        sum += (words[i / 64] & b).count_ones() as usize;
+        i += m;
     }
     sum
 }

@@ -9,7 +9,6 @@ use native.Mathlib.Decide.{dec_lt}
 use native.Mathlib.Omega.{arith}
 use mathlib.Core.Logic.{by_cases, ◌≢◌}
 use borrow.Author.Tests.{lt-ltb, le-ltb, ne_eqb}
-use lib.Dec.{ltb}
 use mir.Val.{Fits}
 use mir.Syntax.{w64}
 use lib.ListN.{length, drop, set, length-append, get_or, drop_of_length-le, take}
@@ -114,83 +113,69 @@ decimal_long (suc k) n h =
 
 -- ---- the loops
 
--- p is the least number with more than k digits, and n has k or more
+-- k - 1 digits are counted: n has k or more, and p is the least number that has k
 pub record Digits (n p k : ℕ) : Type 0 where
-  pub power : p ≡ 10 ^ k
-  pub some : 1 ≤ k
-  pub few : k ≤ 19
+  pub power : p * 10 ≡ 10 ^ k
   pub least : k ≤ length (decimal n)
 
 abbrev pub Long : ℕ → ℕ → Type 0
 Long n k = (k ≡ length (decimal n)) × (1 ≤ k) × (k ≤ 20)
 
-pub digits_first : (n : ℕ) → Digits n 10 1
-digits_first n = record { power = refl; some = omega arith; few = omega arith; least = decimal_some n }
+pub digits_first : (n : ℕ) → Digits n 1 1
+digits_first n = record { power = refl; least = decimal_some n }
 
 module _ {n p k : ℕ} (d : Digits n p k) where
-  module _ (h : k ≢ 19) where
-    pub digits_room : Fits w64 (10 * p)
-    digits_room =
-        let most : 10 ^ k ≤ 10 ^ 18 = power_most k 18 (omega (arith, d.few)) in
-        omega (arith, d.power, most)
+  pub digits_next : p * 10 ≤ n → Digits n (p * 10) (k + 1)
+  digits_next l =
+      let longer = decimal_long k n (omega (arith, d.power)) in
+      record { power = rw (add-one k, pow-suc 10 k) (omega (arith, d.power)); least = omega (arith, longer) }
 
-    pub digits_next : p ≤ n → Digits n (10 * p) (k + 1)
-    digits_next l =
-        let longer = decimal_long k n (omega (arith, d.power)) in
-        let next : 10 * p ≡ 10 ^ (k + 1) = rw (add-one k, pow-suc 10 k) (omega (arith, d.power)) in
-        record { power = next; some = omega arith; few = omega (arith, d.few); least = omega arith }
-
-  pub digits_full : k ≡ 19 → p ≤ n → Fits w64 n → Long n 20
-  digits_full e l h =
-      let longer : suc k ≤ length (decimal n) = decimal_long k n (omega (arith, d.power)) in
-      (omega (arith, longer, decimal_short 19 n (omega arith)), omega arith, omega arith)
-
-  pub digits_done : n < p → Long n k
-  digits_done l =
-      let e : suc (k - 1) ≡ k = omega (arith, d.some) in
+  pub digits_done : 1 ≤ k → k ≤ 20 → n < p * 10 → Long n k
+  digits_done h g l =
+      let e : suc (k - 1) ≡ k = omega arith in
       let below : n < 10 ^ suc (k - 1) = rw e (omega (arith, d.power)) in
-      (omega (arith, d.least, d.some, decimal_short (k - 1) n below), d.some, omega (arith, d.few))
+      (omega (arith, d.least, decimal_short (k - 1) n below), h, g)
 
--- the last digit of m is stored; those in front are left
-pub digit_turn : (o : List ℕ) (at i m : ℕ) → 10 ≤ m → i + 1 ≡ at + length (decimal m) → sets (set o i (48 + m % 10)) at (decimal (m / 10)) ≡ sets o at (decimal m)
-digit_turn o at i m h e =
-    let p : i ≡ at + length (decimal (m / 10)) = omega (arith, decimal_length_large m h) in
-    rw (p, decimal_large m h) (sets_last o at (48 + m % 10) (decimal (m / 10)))
+  pub digits_full : k ≡ 20 → Fits w64 n → Long n 20
+  digits_full e h = (omega (arith, d.least, decimal_short 19 n (omega arith)), omega arith, omega arith)
 
-pub digit_done : (o : List ℕ) (at i m : ℕ) → m < 10 → i + 1 ≡ at + length (decimal m) → set o i (48 + m) ≡ sets o at (decimal m)
-digit_done o at i m h e =
-    let p : i ≡ at = omega (arith, decimal_length_small m h) in
-    rw (p, decimal_small m h)
+-- the j last digits of m
+unfoldable pub last_digits : ℕ → ℕ → List ℕ
+last_digits zero m = []
+last_digits (suc j) m = last_digits j (m / 10) ++ (48 + m % 10) ∷ []
 
--- ---- the marks of a template
+length-last_digits : (j m : ℕ) → length (last_digits j m) ≡ j
+unfolding last_digits
+length-last_digits zero m = refl
+length-last_digits (suc j) m = omega (arith, length-append (last_digits j (m / 10)) ((48 + m % 10) ∷ []), length-last_digits j (m / 10))
 
-pub takes_one : (m : ℕ) {b : ℕ} → takes m ≡ 1 → b ≡ m → (◌≡◌ {A = ℕ} 1 (takes b)) × (1 ≤ 1)
-takes_one m h e = (sym (ap takes e ∙ h), omega arith)
+pub last_all : (j m : ℕ) → length (decimal m) ≡ j → last_digits j m ≡ decimal m
+unfolding last_digits
+last_all zero m e = Prim.absurd (omega (arith, decimal_some m))
+last_all (suc j) m e =
+    by_cases (dec_lt m 10)
+    (λ s. let none : j ≡ 0 = omega (arith, decimal_length_small m s) in let same : m % 10 ≡ m = omega arith in rw (none, same, decimal_small m s))
+    (λ s. let b : 10 ≤ m = omega arith in
+    ap (λ (l : List ℕ). l ++ (48 + m % 10) ∷ []) (last_all j (m / 10) (omega (arith, decimal_length_large m b))) ∙ sym (decimal_large m b))
 
-pub takes_none : (b : ℕ) → b ≢ 91 → b ≢ 36 → b ≢ 126 → (◌≡◌ {A = ℕ} 0 (takes b)) × (0 ≤ 1)
-unfolding takes
-takes_none b d e f = rw (ne_eqb b 91 d, ne_eqb b 36 e, ne_eqb b 126 f) (refl, omega arith)
+-- a turn of the loop: the last digit of m is stored, and those in front of it are left
+pub last_turn : (o : List ℕ) (at i m : ℕ) → at < i
+    → sets (set o (i - 1) (48 + m % 10)) at (last_digits (i - 1 - at) (m / 10)) ≡ sets o at (last_digits (i - at) m)
+unfolding last_digits
+last_turn o at i m h =
+    let p : i - 1 ≡ at + length (last_digits (i - 1 - at) (m / 10)) = omega (arith, length-last_digits (i - 1 - at) (m / 10)) in
+    let q : suc (i - 1 - at) ≡ i - at = omega arith in
+    ap (λ (k : ℕ). sets (set o k (48 + m % 10)) at (last_digits (i - 1 - at) (m / 10))) p
+    ∙ sets_last o at (48 + m % 10) (last_digits (i - 1 - at) (m / 10)) ∙ ap (λ (k : ℕ). sets o at (last_digits k m)) q
 
-module _ (v : Bool) (b n : ℕ) where
-  pub shows_open : b ≡ 91 → ltb 0 n ≡ shows v b n
-  unfolding shows
-  shows_open e = rw e
-
-  pub shows_close : b ≡ 93 → true ≡ shows v b n
-  unfolding shows
-  shows_close e = rw e
-
-  pub shows_same : b ≢ 91 → b ≢ 93 → v ≡ shows v b n
-  unfolding shows
-  shows_same d e = rw (ne_eqb b 91 d, ne_eqb b 93 e)
+pub last_none : (o : List ℕ) (at i m : ℕ) → i ≤ at → sets o at (last_digits (i - at) m) ≡ o
+unfolding last_digits
+last_none o at i m h = let none : i - at ≡ 0 = omega arith in rw none
 
 -- ---- what a byte of a template writes
 
 abbrev pub Pieced : ℕ → ℕ → List ℕ → List ℕ → ℕ → ℕ → Type 0
 Pieced b n o o' i j = (Appends o o' i j (piece b n)) × (j ≤ i + piece_room b)
-
-pub room_one : (b : ℕ) → b ≢ 91 → b ≢ 93 → b ≢ 36 → piece_room b ≡ 1
-room_one b d e f = rw (ne_eqb b 91 d, ne_eqb b 93 e, ne_eqb b 36 f)
 
 module _ (b n : ℕ) {o : List ℕ} {i : ℕ} where
   pub piece_none : (m : ℕ) → piece m n ≡ [] → b ≡ m → Pieced b n o o i i
@@ -240,12 +225,8 @@ pub record Filling (o₀ : List ℕ) (at : ℕ) (t ns o : List ℕ) (v : Bool) (
   pub next : j + length (filled_from v (drop i t) (drop k ns)) ≡ at + length (filled t ns)
   pub within : j + room (drop i t) ≤ at + room t
   pub few : k ≤ i
-  pub kept : length o ≡ length o₀
 
 module _ {o₀ : List ℕ} {at : ℕ} {t ns : List ℕ} where
-  pub filling_first : Filling o₀ at t ns o₀ true 0 at 0
-  filling_first = record { text = refl; next = refl; within = omega arith; few = omega arith; kept = refl }
-
   module _ {o : List ℕ} {v : Bool} {i j k : ℕ} (f : Filling o₀ at t ns o v i j k) where
     pub filling_done : length t ≤ i → (Appends o₀ o at j (filled t ns)) × (j ≤ at + room t)
     filling_done h =
@@ -253,9 +234,6 @@ module _ {o₀ : List ℕ} {at : ℕ} {t ns : List ℕ} where
         (record { next = omega (arith, f.next, ap length e); text = ap (sets o j) (sym e) ∙ f.text }, omega (arith, f.within))
 
     module _ (l : i < length t) {b : ℕ} (e : b ≡ cond v (get_or t i 0) 93) where
-      pub filling_room : at + room t ≤ length o₀ → j + piece_room b ≤ length o
-      filling_room h = rw e (omega (arith, f.within, f.kept, room_step t i l, room_seen v (get_or t i 0)))
-
       pub filling_next : {o' : List ℕ} {v' : Bool} {n m j' : ℕ} → n ≡ get_or ns k 0 → Pieced b n o o' j j' → v' ≡ shows v (get_or t i 0) n
           → m ≡ takes (get_or t i 0) → m ≤ 1 → Filling o₀ at t ns o' v' (i + 1) j' (k + m)
       filling_next {o'} {v'} {n} {m} {j'} g (w, h) x y z =
@@ -270,5 +248,4 @@ module _ {o₀ : List ℕ} {at : ℕ} {t ns : List ℕ} where
             next = omega (arith, a.next, ap length s, length-append p u, f.next);
             within = omega (arith, f.within, room_step t i l, h, r);
             few = omega (arith, f.few, z);
-            kept = appends_length a ∙ f.kept;
           }

@@ -23,7 +23,7 @@ abbrev place : Turn → ℕ
 place c = c.loop-i.i
 
 abbrev part : Turn → ℕ
-part c = c.least-m.result
+part c = c.min-m.result
 
 -- what is added is their count, and so at most their number
 counted : (c : Turn) → count_bits (row c) (place c) (part c) ≡ ones (bit_and (get_or (row c) (place c / 64) 0) c.mask-b.result)

@@ -12,7 +12,7 @@ loop-q-init c = (omega arith, next_from_lem (digit c.args.v) c.args.words.now _ 
 pub returns-then-t-left : goal.returns-then-t-left
 returns-then-t-left c =
     let l = c.loop-q in
-    c.least.ensures
+    c.min.ensures
     ∙ sym (next_inside (digit c.args.v) c.args.words.now l.q c.args.to _ (digit_lt c.args.v)
     (omega arith) c.first_bit-t.ensures c.if-t-left.true)
     ∙ l.invariant.1

@@ -17,7 +17,7 @@ loop-i-init c = (
 pub loop-i-preserved : goal.loop-i-preserved
 loop-i-preserved c =
     let l = c.loop-i in
-    let m = c.least-m.result in
+    let m = c.min-m.result in
     let v = digit c.args.v in
     let e = c.put_in_word.ensures in (
       refl,

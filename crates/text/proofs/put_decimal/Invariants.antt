@@ -1,13 +1,9 @@
 -- `text::put_decimal` meets its contract. Assumes nothing.
+use Rattle.std.proofs.Common.{◌≡◌, ◌-◌}
 use lib.Seq.{sets}
 use Rattle.text.specs.Text.{decimal}
-use Prim.Native.Nat.{◌+◌, ◌≤◌}
-use mathlib.Core.Path.{◌≡◌}
-use lib.ListN.{length}
+use Rattle.text.proofs.TextLaws.{last_digits}
 use Rattle.text.proofs.put_decimal.Given as goal
 
-abbrev pub invariant-loop-m : goal.invariant-loop-m
-invariant-loop-m l = (l.i + 1 ≡ l.at + length (decimal l.m)) × (length l.out ≡ length l.initial.out) × (length (decimal l.m) ≤ length (decimal l.n)) × (sets l.out l.at (decimal l.m) ≡ sets l.initial.out l.at (decimal l.n))
-
-abbrev pub decreases-loop-m : goal.decreases-loop-m
-decreases-loop-m l = l.m
+abbrev pub invariant-loop-i : goal.invariant-loop-i
+invariant-loop-i l = sets l.out l.at (last_digits (l.i - l.at) l.m) ≡ sets l.initial.out l.at (decimal l.n)

@@ -1,12 +1,17 @@
 -- `text::shows_after` meets its contract. Assumes nothing.
-use Rattle.text.proofs.TextLaws.{shows_open, shows_close, shows_same}
+use Rattle.std.proofs.Common.{arith}
+use Rattle.std.proofs.lemmas.Bool.Decides.{nat_tests}
+use Rattle.text.specs.Text.{shows}
 use Rattle.text.proofs.shows_after.Goals as goal
 
-pub returns-then-b-eq91 : goal.returns-then-b-eq91
-returns-then-b-eq91 c = shows_open _ _ _ c.if-b-eq91.true
+pub returns-in-91 : goal.returns-in-91
+unfolding shows
+returns-in-91 c = grind (arith, nat_tests)
 
-pub returns-then-b-eq93 : goal.returns-then-b-eq93
-returns-then-b-eq93 c = shows_close _ _ _ c.if-b-eq93.true
+pub returns-in-93 : goal.returns-in-93
+unfolding shows
+returns-in-93 c = grind (arith, nat_tests)
 
-pub returns : goal.returns
-returns c = shows_same _ _ _ c.if-b-eq91.false c.if-b-eq93.false
+pub returns-in_default : goal.returns-in_default
+unfolding shows
+returns-in_default c = grind (arith, nat_tests)

@@ -1,7 +1,0 @@
--- `text::number_at` meets its contract. Assumes nothing.
-use mathlib.Core.Path.{sym}
-use lib.ListN.{get_or-eq_default}
-use Rattle.text.proofs.number_at.Goals as goal
-
-pub returns : goal.returns
-returns c = sym (get_or-eq_default c.args.ns.now 0 c.if-k-ns.false)
