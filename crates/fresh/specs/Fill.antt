@@ -1,11 +1,11 @@
 -- Buffers that are written from their start. Assumes nothing.
-use Rattle.std.specs.Prelude.{◌≡◌, cond, List, ℕ, ◌%◌, ◌<◌, eqb, length, get_or}
+use Rattle.std.specs.Prelude.{cond, List, map, ℕ, ◌%◌, eqb}
+use Rattle.std.specs.List.{range_with_len}
 
--- every m-th element, from the first on, is v, and all others are 0
-unfoldable pub each : ℕ → ℕ → ℕ → ℕ
-each m v i = cond (eqb (i % m) 0) v 0
+-- every m-th element, from the first on, is v, and all others are z
+abbrev pub each : {A : Type 0} → ℕ → A → A → ℕ → A
+each m v z i = cond (eqb (i % m) 0) v z
 
--- the first k of n elements are so
-pub record Filled (m v n k : ℕ) (l : List ℕ) : Type 0 where
-  pub long : length l ≡ n
-  pub at : (i : ℕ) → i < k → get_or l i 0 ≡ each m v i
+-- n elements by their places
+abbrev pub row : {A : Type 0} → (ℕ → A) → ℕ → List A
+row f n = map f (range_with_len 0 n)

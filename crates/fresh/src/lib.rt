@@ -4,42 +4,25 @@
 ghost use Rattle.std.specs.Prelude.{◌≡◌, ◌<◌, length};
 ghost use Rattle.records.specs.Lent.{before, after};
 ghost use Rattle.records.specs.Calls.{leaves, fresh_of};
-ghost use Rattle.fresh.specs.Fill.{each, Filled};
+ghost use Rattle.fresh.specs.Fill.{each, row};
 
 use refusals::SHAPE;
 
-// v where m divides i, else 0.
-fn each_of(m: usize, v: u32, i: usize) -> u32
+// What stands at place i of a row whose every m-th element is `first`, from the start on, and all others `rest`.
+fn each_of<T: Copy>(m: usize, first: T, rest: T, i: usize) -> T
     requires { 0 < m }
-    ensures { result ≡ each m v i }
+    ensures { result ≡ each m first rest i }
 {
-    if i % m == 0 {
-        return v;
-    }
-    0
+    if i % m == 0 { first } else { rest }
 }
 
-// Every m-th word becomes v, all others 0.
-fn fill64(words: &mut [u64], m: usize, v: u32)
+// Every m-th word becomes `first`, all others `rest`.
+fn fill_each<T: Copy>(words: &mut [T], m: usize, first: T, rest: T)
     requires { 0 < m }
-    ensures { Filled m v (length words.old) (length words.old) words.new }
+    ensures { words.new ≡ row (each m first rest) (length words.old) }
 {
-    let mut i = 0;
-    while i < words.len() {
-        words[i] = widths::wide32(each_of(m, v, i));
-        i += 1;
-    }
-}
-
-// The same of 32-bit words.
-fn fill32(words: &mut [u32], m: usize, v: u32)
-    requires { 0 < m }
-    ensures { Filled m v (length words.old) (length words.old) words.new }
-{
-    let mut i = 0;
-    while i < words.len() {
-        words[i] = each_of(m, v, i);
-        i += 1;
+    for (i, w) in words.iter_mut().enumerate() {
+        *w = each_of(m, first, rest, i);
     }
 }
 
@@ -50,8 +33,8 @@ pub fn fresh(c: u64, bits: &mut [u64], words: &mut [u32], slots: &mut [u64]) -> 
     if !records::is_shaped(c, bits.len(), words.len(), slots.len()) {
         return SHAPE;
     }
-    fill64(bits, 8, 1);
-    fill32(words, 512, records::edge_word());
-    fill64(slots, 8, 0);
+    fill_each(bits, 8, 1, 0);
+    fill_each(words, 512, records::edge_word(), 0);
+    slots.fill(0);
     0
 }

@@ -7,5 +7,5 @@ returns-then-not-is_shaped c = fresh_not _ _ _ c.is_shaped.ensures c.if-not-is_s
 
 pub returns : goal.returns
 returns c =
-    fresh_made _ _ _ _ _ _ c.is_shaped.ensures c.if-not-is_shaped.false c.fill64.ensures
-    c.edge_word.ensures c.fill32.ensures c.fill64-2.ensures
+    fresh_made _ _ _ _ _ _ c.is_shaped.ensures c.if-not-is_shaped.false c.fill_each.ensures
+    c.edge_word.ensures c.fill_each-2.ensures (c.fill.ensures.after (λ y e. e))
