@@ -10,8 +10,7 @@ use lib.Dec.{lit<}
 use Rattle.bitrow.specs.Row.{bit_at, next_bit}
 use Rattle.bitrow.proofs.Rows.{lt_or_ge, First, next_first}
 use Rattle.gaps.specs.declared.Gap.{Gap}
-use Rattle.gaps.specs.declared.Found.{Found}
-use Rattle.gaps.specs.declared.Found.TheVariants.{At, Nothing}
+use Rattle.std.specs.Prelude.{Option, Some, None}
 use Rattle.gaps.specs.Gaps.{gap, gaps_of, no_gap, shortest, found_at, find_in_chunk, or_else, find_from, find_pages, IsGap, IsBest, HoldsNone, IsPlace, GapsMean}
 use Rattle.gaps.proofs.Scan.{free_or_taken, gaps_same}
 use Rattle.gaps.proofs.Listed.{in_mem, mem_in, row_each, gaps_row, gap_listed}
@@ -23,15 +22,15 @@ module _ (c : ℕ) (bits : List ℕ) (n : ℕ) where
   NoneBelow k = (i : ℕ) → i < k → HoldsNone bits i n
 
   -- what an answer for the pool means
-  abbrev Means : Found → Type 0
-  Means (At g) = IsPlace c bits n g
-  Means Nothing = NoneBelow c
+  abbrev Means : Option ℕ → Type 0
+  Means (Some g) = IsPlace c bits n g
+  Means None = NoneBelow c
 
   -- chunk k, behind chunks that have no such gap, and what the chunks behind it give
-  chunk_or_else : (k : ℕ) (f next : Found) → k < c → NoneBelow k → InChunk bits k n f
+  chunk_or_else : (k : ℕ) (f next : Option ℕ) → k < c → NoneBelow k → InChunk bits k n f
       → (HoldsNone bits k n → Means next) → Means (or_else f next)
-  chunk_or_else k (At g) next l h is rest = record { chunk = k; exists = l; earlier = h; best = is.0; is = is.2; starts = is.1 }
-  chunk_or_else k Nothing next l h is rest = rest is
+  chunk_or_else k (Some g) next l h is rest = record { chunk = k; exists = l; earlier = h; best = is.0; is = is.2; starts = is.1 }
+  chunk_or_else k None next l h is rest = rest is
 
   none_more : (k : ℕ) → NoneBelow k → HoldsNone bits k n → NoneBelow (k + 1)
   none_more k h z i l =
@@ -72,24 +71,24 @@ module _ (c : ℕ) (bits : List ℕ) (n : ℕ) where
   never_both : (g : ℕ) → IsPlace c bits n g → NoneBelow c → ⊥
   never_both g p none = omega (arith, p.is.holds, none p.chunk p.exists p.best p.is.is)
 
-  at_place : (g : ℕ) (f : Found) → Means f → IsPlace c bits n g → f ≡ At g
-  at_place g (At h) m p = ap At (place_once h g m p)
-  at_place g Nothing m p = absurd (never_both g p m)
+  at_place : (g : ℕ) (f : Option ℕ) → Means f → IsPlace c bits n g → f ≡ Some g
+  at_place g (Some h) m p = ap Some (place_once h g m p)
+  at_place g None m p = absurd (never_both g p m)
 
-  nothing_there : (f : Found) → Means f → NoneBelow c → f ≡ Nothing
-  nothing_there (At g) m none = absurd (never_both g m none)
-  nothing_there Nothing m none = refl
+  nothing_there : (f : Option ℕ) → Means f → NoneBelow c → f ≡ None
+  nothing_there (Some g) m none = absurd (never_both g m none)
+  nothing_there None m none = refl
 
-  pub found_place : (g : ℕ) → find_pages c bits n ≡ At g → IsPlace c bits n g
+  pub found_place : (g : ℕ) → find_pages c bits n ≡ Some g → IsPlace c bits n g
   found_place g e = subst Means e means
 
-  pub place_found : (g : ℕ) → IsPlace c bits n g → find_pages c bits n ≡ At g
+  pub place_found : (g : ℕ) → IsPlace c bits n g → find_pages c bits n ≡ Some g
   place_found g p = at_place g (find_pages c bits n) means p
 
-  pub nothing_none : find_pages c bits n ≡ Nothing → (k : ℕ) → k < c → HoldsNone bits k n
+  pub nothing_none : find_pages c bits n ≡ None → (k : ℕ) → k < c → HoldsNone bits k n
   nothing_none e = subst Means e means
 
-  pub none_nothing : ((k : ℕ) → k < c → HoldsNone bits k n) → find_pages c bits n ≡ Nothing
+  pub none_nothing : ((k : ℕ) → k < c → HoldsNone bits k n) → find_pages c bits n ≡ None
   none_nothing none = nothing_there (find_pages c bits n) means none
 
 pub gaps_mean : GapsMean
@@ -155,7 +154,7 @@ pub record FreeRun (c : ℕ) (bits : List ℕ) (n g : ℕ) : Type 0 where
   pub off : 1 ≤ g % 512
   pub free : (i : ℕ) → g ≤ i → i < g + n → bit_at bits i ≡ 0
 
-pub found_free : (c : ℕ) (bits : List ℕ) (n g : ℕ) → find_pages c bits n ≡ At g → FreeRun c bits n g
+pub found_free : (c : ℕ) (bits : List ℕ) (n g : ℕ) → find_pages c bits n ≡ Some g → FreeRun c bits n g
 found_free c bits n g e =
     let p = found_place c bits n g e in
     let start = p.starts in
@@ -179,7 +178,7 @@ module _ (bits bits' : List ℕ) where
   unfolding find_from find_in_chunk gaps_of
   from_same n zero k h = refl
   from_same n (suc m) k h =
-      ap₂ (λ (x : List Gap) (y : Found). or_else (found_at (shortest n no_gap x)) y) (gaps_same bits bits' 511 (512 * k + 1) 0 (λ i a b. h i (omega arith)))
+      ap₂ (λ (x : List Gap) (y : Option ℕ). or_else (found_at (shortest n no_gap x)) y) (gaps_same bits bits' 511 (512 * k + 1) 0 (λ i a b. h i (omega arith)))
       (from_same n m (k + 1) (λ i a. h i (omega arith)))
 
   pub find_same : (c n : ℕ) → ((i : ℕ) → i < 512 * c → bit_at bits i ≡ bit_at bits' i) → find_pages c bits n ≡ find_pages c bits' n

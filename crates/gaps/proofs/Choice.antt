@@ -11,8 +11,7 @@ use native.Mathlib.Omega.{arith}
 use borrow.Author.Tests.{lt-ltb, le-ltb}
 use Rattle.bitrow.proofs.Rows.{lt_or_ge}
 use Rattle.gaps.specs.declared.Gap.{Gap}
-use Rattle.gaps.specs.declared.Found.{Found}
-use Rattle.gaps.specs.declared.Found.TheVariants.{At, Nothing}
+use Rattle.std.specs.Prelude.{Option, Some, None}
 use Rattle.gaps.specs.Gaps.{gaps_of, no_gap, shortest, found_at, find_in_chunk, or_else, find_from, find_pages, IsBest, HoldsNone}
 use Rattle.gaps.proofs.Scan.{better_took, better_short, better_kept, found_at_lem, found_nothing}
 use Rattle.gaps.proofs.Listed.{In, Row, none, more, row_each, gaps_row, gap_listed}
@@ -26,7 +25,7 @@ record Chosen (n : ℕ) (best : Gap) (xs : List Gap) (y : Gap) : Type 0 where
   from : (y ≡ best) ⊎ (In y xs × (n ≤ y.len) × (y.len < best.len))
   beats : (x : Gap) → In x xs → n ≤ x.len → Beats y x
 
-len_of : {x y : Gap} → x ≡ y → x.len ≡ y.len
+pub len_of : {x y : Gap} → x ≡ y → x.len ≡ y.len
 len_of e = ap (λ (z : Gap). z.len) e
 
 module _ {n : ℕ} {x best : Gap} {xs : List Gap} {y : Gap} where
@@ -49,9 +48,9 @@ chosen_took {x = x} a b ch = record {
 }
 
 -- what an answer for chunk k means
-abbrev pub InChunk : List ℕ → ℕ → ℕ → Found → Type 0
-InChunk bits k n (At a) = (x : Gap) × (x.at ≡ a) × IsBest bits k n x
-InChunk bits k n Nothing = HoldsNone bits k n
+abbrev pub InChunk : List ℕ → ℕ → ℕ → Option ℕ → Type 0
+InChunk bits k n (Some a) = (x : Gap) × (x.at ≡ a) × IsBest bits k n x
+InChunk bits k n None = HoldsNone bits k n
 
 module _ (bits : List ℕ) (k n : ℕ) where
   shortest_chosen : {a : ℕ} (xs : List Gap) (best : Gap) → Row bits k a xs → ((x : Gap) → In x xs → x.len ≡ best.len → best.at ≤ x.at)
@@ -81,7 +80,7 @@ module _ (bits : List ℕ) (k n : ℕ) where
       (lt_or_ge y.len 512)
     where
       Goal : Bool → Type 0
-      Goal b = InChunk bits k n (cond b (At y.at) Nothing)
+      Goal b = InChunk bits k n (cond b (Some y.at) None)
 
       one : y.len < 512 → In y (gaps_of bits k) × (n ≤ y.len)
       one h = ⊎_elim (λ e. absurd (omega (arith, len_of e))) (λ t. (t.0, t.1)) ch.from
@@ -102,42 +101,36 @@ module _ (bits : List ℕ) (k n : ℕ) where
   unfolding find_in_chunk
   chunk_means = answered (shortest n no_gap (gaps_of bits k)) chosen
 
--- ---- the turns of the search in a pool: there is no best gap yet or there is one, and it or else the chunks from k on give what all chunks
--- give
+-- ---- the turns of the search in a pool: no chunk before k gave a gap, and the chunks from k on give what all chunks give
 
 pub record Sought (bits : List ℕ) (n c k : ℕ) (best : Gap) : Type 0 where
-  pub known : (best ≡ no_gap) ⊎ (best.len < 512)
-  pub gives : or_else (found_at best) (find_from bits n k (c - k)) ≡ find_pages c bits n
+  pub none : best ≡ no_gap
+  pub gives : find_from bits n k (c - k) ≡ find_pages c bits n
 
 module _ (bits : List ℕ) (n c : ℕ) where
   pub sought_start : Sought bits n c 0 no_gap
   unfolding find_pages
-  sought_start = record { known = inl refl; gives = ap (find_from bits n 0) (sub-zero c) }
+  sought_start = record { none = refl; gives = ap (find_from bits n 0) (sub-zero c) }
 
-  -- with no gap so far, chunk k gives what it gives by itself
-  module _ (k : ℕ) (best next : Gap) (l : k < c) (h : 512 ≤ best.len) (e : next ≡ shortest n best (gaps_of bits k)) (s : Sought bits n c k best) where
+  module _ (k : ℕ) (best next : Gap) (l : k < c) (e : next ≡ shortest n best (gaps_of bits k)) (s : Sought bits n c k best) where
     alone : next ≡ shortest n no_gap (gaps_of bits k)
-    alone = e ∙ ap (λ (b : Gap). shortest n b (gaps_of bits k)) (⊎_elim (λ z. z) (λ z. absurd (omega arith)) s.known)
+    alone = e ∙ ap (λ (b : Gap). shortest n b (gaps_of bits k)) s.none
 
-    step : or_else (found_at next) (find_from bits n (k + 1) (c - (k + 1))) ≡ find_from bits n k (c - k)
+    step : or_else (found_at next) (find_from bits n (k + 1) (c - (k + 1))) ≡ find_pages c bits n
     unfolding find_from find_in_chunk
     step =
         let more : suc (c - (k + 1)) ≡ c - k = omega arith in
-        ap (λ (x : Gap). or_else (found_at x) (find_from bits n (k + 1) (c - (k + 1)))) alone ∙ ap (find_from bits n k) more
+        ap (λ (x : Gap). or_else (found_at x) (find_from bits n (k + 1) (c - (k + 1)))) alone ∙ ap (find_from bits n k) more ∙ s.gives
 
-    pub sought_turn : Sought bits n c (k + 1) next
-    sought_turn = record {
-      known = subst (λ (x : Gap). (x ≡ no_gap) ⊎ (x.len < 512)) (sym alone)
-          (⊎_elim (λ z. inl z) (λ z. inr z.2) (chosen bits k n).from);
-      gives = step ∙ sym (ap (λ (f : Found). or_else f (find_from bits n k (c - k))) (found_nothing best h)) ∙ s.gives;
+    pub sought_at : next.len < 512 → Some next.at ≡ find_pages c bits n
+    sought_at h = sym (ap (λ (f : Option ℕ). or_else f (find_from bits n (k + 1) (c - (k + 1)))) (found_at_lem next h)) ∙ step
+
+    pub sought_turn : 512 ≤ next.len → Sought bits n c (k + 1) next
+    sought_turn h = record {
+      none = ⊎_elim (λ z. alone ∙ z) (λ z. absurd (omega (arith, z.2, len_of alone))) (chosen bits k n).from;
+      gives = sym (ap (λ (f : Option ℕ). or_else f (find_from bits n (k + 1) (c - (k + 1)))) (found_nothing next h)) ∙ step;
     }
 
-  module _ (k : ℕ) (best : Gap) (s : Sought bits n c k best) where
-    pub sought_at : best.len < 512 → At best.at ≡ find_pages c bits n
-    sought_at l = sym (ap (λ (f : Found). or_else f (find_from bits n k (c - k))) (found_at_lem best l)) ∙ s.gives
-
-    pub sought_none : c ≤ k → 512 ≤ best.len → Nothing ≡ find_pages c bits n
-    unfolding find_from
-    sought_none l h =
-        let none : 0 ≡ c - k = omega arith in
-        ap (find_from bits n k) none ∙ sym (ap (λ (f : Found). or_else f (find_from bits n k (c - k))) (found_nothing best h)) ∙ s.gives
+  pub sought_none : (k : ℕ) (best : Gap) → c ≤ k → Sought bits n c k best → None ≡ find_pages c bits n
+  unfolding find_from
+  sought_none k best l s = let none : 0 ≡ c - k = omega arith in ap (find_from bits n k) none ∙ s.gives

@@ -13,7 +13,7 @@ use Rattle.bitrow.specs.Row.{bit_at}
 use Rattle.bitrow.proofs.Words.{v_or_other}
 use Rattle.bitrow.proofs.Rows.{bit_at_le, lt_or_ge}
 use Rattle.gaps.specs.declared.Gap.{Gap}
-use Rattle.gaps.specs.declared.Found.TheVariants.{At, Nothing}
+use Rattle.std.specs.Prelude.{Some, None}
 use Rattle.gaps.specs.Gaps.{is_free, gap, with_gap, gaps_from, better, shortest, found_at}
 
 pub free_or_taken : (bits : List ℕ) (g : ℕ) → (bit_at bits g ≡ 0) ⊎ (bit_at bits g ≡ 1)
@@ -80,8 +80,8 @@ shortest_exact n best (x ∷ xs) e = ap (λ (b : Gap). shortest n b xs) (better_
 -- ---- what the best gap gives
 
 module _ (best : Gap) where
-  pub found_at_lem : best.len < 512 → found_at best ≡ At best.at
-  found_at_lem l = ap (λ (b : Bool). cond b (At best.at) Nothing) (lt-ltb best.len 512 l)
+  pub found_at_lem : best.len < 512 → found_at best ≡ Some best.at
+  found_at_lem l = ap (λ (b : Bool). cond b (Some best.at) None) (lt-ltb best.len 512 l)
 
-  pub found_nothing : 512 ≤ best.len → found_at best ≡ Nothing
-  found_nothing l = ap (λ (b : Bool). cond b (At best.at) Nothing) (le-ltb best.len 512 l)
+  pub found_nothing : 512 ≤ best.len → found_at best ≡ None
+  found_nothing l = ap (λ (b : Bool). cond b (Some best.at) None) (le-ltb best.len 512 l)

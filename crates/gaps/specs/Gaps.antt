@@ -2,14 +2,12 @@
 -- shortest such gap, the lower one on a tie; the run starts at the gap's first page. A gap is a longest stretch of free pages.
 -- Pages are counted through the pool, page p of chunk k as 512 * k + p, and bit g of the row of page bits is 1 where page g is taken.
 -- Assumes nothing.
-use Rattle.std.specs.Prelude.{◌≡◌, ◌↔◌, ◌⊎◌, Bool, cond, ◌&&◌, ℕ, zero, suc, ◌+◌, ◌-◌, ◌*◌, ◌≤◌, ◌<◌, eqb, ltb, leb}
+use Rattle.std.specs.Prelude.{◌≡◌, ◌↔◌, ◌⊎◌, Bool, cond, ◌&&◌, ℕ, zero, suc, ◌+◌, ◌-◌, ◌*◌, ◌≤◌, ◌<◌, eqb, ltb, leb, Option, Some, None}
 use mathlib.Core.List.{List, [], ◌∷◌, Memᴰ}
 use Rattle.std.specs.Int.Bits.{differ}
 use Rattle.bitrow.specs.Row.{bit, bit_at, put_bit}
 use Rattle.gaps.specs.declared.Gap.{Gap}
 use Rattle.gaps.specs.declared.Search.{Search}
-use Rattle.gaps.specs.declared.Found.{Found}
-use Rattle.gaps.specs.declared.Found.TheVariants.{At, Nothing}
 
 abbrev pub is_free : List ℕ → ℕ → Bool
 is_free bits g = eqb (bit_at bits g) 0
@@ -47,24 +45,24 @@ unfoldable pub shortest : ℕ → Gap → List Gap → Gap
 shortest n best [] = best
 shortest n best (x ∷ xs) = shortest n (better n x best) xs
 
-abbrev pub found_at : Gap → Found
-found_at best = cond (ltb best.len 512) (At best.at) Nothing
+abbrev pub found_at : Gap → Option ℕ
+found_at best = cond (ltb best.len 512) (Some best.at) None
 
 -- n pages in chunk k
-unfoldable pub find_in_chunk : List ℕ → ℕ → ℕ → Found
+unfoldable pub find_in_chunk : List ℕ → ℕ → ℕ → Option ℕ
 find_in_chunk bits k n = found_at (shortest n no_gap (gaps_of bits k))
 
-abbrev pub or_else : Found → Found → Found
-or_else (At g) next = At g
-or_else Nothing next = next
+abbrev pub or_else : Option ℕ → Option ℕ → Option ℕ
+or_else (Some g) next = Some g
+or_else None next = next
 
 -- n pages in the first of the m chunks from k on that has them
-unfoldable pub find_from : List ℕ → ℕ → ℕ → ℕ → Found
-find_from bits n k zero = Nothing
+unfoldable pub find_from : List ℕ → ℕ → ℕ → ℕ → Option ℕ
+find_from bits n k zero = None
 find_from bits n k (suc m) = or_else (find_in_chunk bits k n) (find_from bits n (k + 1) m)
 
 -- n pages in a pool of c chunks
-unfoldable pub find_pages : ℕ → List ℕ → ℕ → Found
+unfoldable pub find_pages : ℕ → List ℕ → ℕ → Option ℕ
 find_pages c bits n = find_from bits n 0 c
 
 -- ---- the search reads a chunk a word at a time, from edge to edge: an edge is a page whose bit differs from that of the page before it
@@ -137,5 +135,5 @@ pub record IsPlace (c : ℕ) (bits : List ℕ) (n g : ℕ) : Type 0 where
 -- The claim: the list has the gaps of the chunk and nothing else, and the answer is that of RULES 5.3.
 pub record GapsMean : Type 0 where
   pub listed : (bits : List ℕ) (k : ℕ) (x : Gap) → Memᴰ x (gaps_of bits k) ↔ IsGap bits k x
-  pub found : (c : ℕ) (bits : List ℕ) (n g : ℕ) → (find_pages c bits n ≡ At g) ↔ IsPlace c bits n g
-  pub nothing : (c : ℕ) (bits : List ℕ) (n : ℕ) → (find_pages c bits n ≡ Nothing) ↔ ((k : ℕ) → k < c → HoldsNone bits k n)
+  pub found : (c : ℕ) (bits : List ℕ) (n g : ℕ) → (find_pages c bits n ≡ Some g) ↔ IsPlace c bits n g
+  pub nothing : (c : ℕ) (bits : List ℕ) (n : ℕ) → (find_pages c bits n ≡ None) ↔ ((k : ℕ) → k < c → HoldsNone bits k n)

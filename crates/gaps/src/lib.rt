@@ -20,23 +20,15 @@ pub struct Search {
     pub best: Gap,
 }
 
-// Where pages were found.
-#[derive(Clone, Copy)]
-pub enum Found {
-    At(usize),
-    Nothing,
-}
-
 // The gap x, where it holds n pages and is shorter than the best one before it.
 fn better_gap(best: Gap, n: usize, x: Gap) -> Gap
     ensures { result ≡ better n x best }
 {
-    if n <= x.len {
-        if x.len < best.len {
-            return x;
-        }
+    if n <= x.len && x.len < best.len {
+        x
+    } else {
+        best
     }
-    best
 }
 
 // The edges of a word: the places whose bit differs from the one before it, which is `before` for the lowest.
@@ -60,7 +52,7 @@ fn at_edge(s: Search, e: usize, to: usize, n: usize) -> Search
 }
 
 // The search behind the 64 pages from q on, which the word w shows. A gap of exactly n pages ends it: none that holds n is shorter, and
-// none of its length comes lower.
+// none of its length comes lower. A turn takes off the lowest edge that is left, so the loop goes over no range.
 fn best_in_word(w: u64, q: usize, to: usize, n: usize, s: Search) -> Search
     requires room { q + 64 ≤ to }
     requires some { 1 ≤ n }
@@ -70,7 +62,7 @@ fn best_in_word(w: u64, q: usize, to: usize, n: usize, s: Search) -> Search
     let mut edges = edges_of(w, q <= s.start);
     let mut r = s;
     while edges != 0 && r.best.len != n {
-        let e = q + u64::trailing_zeros(edges) as usize;
+        let e = q + edges.trailing_zeros() as usize;
         r = at_edge(r, e, to, n);
         edges = edges & (edges - 1);
     }
@@ -95,20 +87,18 @@ fn first_free(bits: &[u64], k: usize) -> usize
     requires low { k < 16 }
     ensures { result ≡ next_bit 0 (barred bits.now k) (512 * k) 512 }
 {
-    let mut i = 0;
-    while i < 8 {
+    for i in 0..8 {
         let w = page_word(bits, k, i);
         let t = bitrow::first_zero(w) as usize;
         if t < 64 {
             return 512 * k + 64 * i + t;
         }
-        i += 1;
     }
     512 * k + 512
 }
 
-// The shortest of the gap before and those gaps of chunk k that hold n pages. A chunk with no free page has none. The loop counts eight
-// words, from the first on, so that the compiler writes them out one after the other: that is faster.
+// The shortest of the gap before and those gaps of chunk k that hold n pages. A chunk with no free page has none, and behind a gap of
+// exactly n pages none is better.
 fn best_in_chunk(bits: &[u64], k: usize, n: usize, before: Gap) -> Gap
     requires long { 8 * k + 8 ≤ length bits.now }
     requires low { k < 16 }
@@ -119,39 +109,38 @@ fn best_in_chunk(bits: &[u64], k: usize, n: usize, before: Gap) -> Gap
     if first_free(bits, k) == to {
         return before;
     }
-    let mut i = 0;
     let mut s = Search {
         start: to,
         best: before,
     };
-    while i < 8 && s.best.len != n {
+    for i in 0..8 {
         let w = page_word(bits, k, i);
         s = best_in_word(w, 512 * k + 64 * i, to, n, s);
-        i += 1;
+        if s.best.len == n {
+            return s.best;
+        }
     }
     let a = s.start;
     let best = s.best;
     better_gap(best, n, Gap { at: a, len: to - a })
 }
 
-// The first page of n pages, in the first of c chunks that has them. A length of 512 stands for no gap.
-pub fn find_pages(c: usize, bits: &[u64], n: usize) -> Found
+// The first page of n pages, in the first of c chunks that has them. A gap is at most 511 pages long, so a length of 512 stands for none:
+// the search then compares lengths alone.
+pub fn find_pages(c: usize, bits: &[u64], n: usize) -> Option<usize>
     requires long { 8 * c ≤ length bits.now }
     requires few { c ≤ 16 }
     requires some { 1 ≤ n }
     ensures { result ≡ find_pages c bits.now n }
 {
-    let mut k = 0;
     let mut best = Gap { at: 0, len: 512 };
-    while k < c && 512 <= best.len {
+    for k in 0..c {
         best = best_in_chunk(bits, k, n, best);
-        k += 1;
+        if best.len < 512 {
+            break;
+        }
     }
-    if best.len < 512 {
-        Found::At(best.at)
-    } else {
-        Found::Nothing
-    }
+    if best.len < 512 { Some(best.at) } else { None }
 }
 
 // The search's definitions mean what RULES 5.3 says of gaps, both where pages are found and where none are. The answer itself says nothing.

@@ -8,6 +8,7 @@ use Prim.Native.Nat.{ℕ, zero, suc, ◌+◌, ◌-◌, ◌*◌, ◌/◌, ◌%◌
 use native.Mathlib.Nat.{le_refl, div-add-mod'}
 use native.Mathlib.Omega.{arith}
 use lib.ListN.{get_or}
+use Rattle.std.specs.Prelude.{Option, Some}
 use Rattle.refusals.specs.Refusals.{no_block, free_slot}
 use Rattle.refusals.proofs.CallLaws.{refused, served}
 use Rattle.bitrow.specs.Row.{is_set}
@@ -138,8 +139,16 @@ size_as e f g = g ∙ ap size_at (sym e ∙ f)
 
 -- ---- what the place lies in, as it was matched
 
-pub leads_as : (c : ℕ) (p : Pool) (q : ℕ) {x y : Area} → x ≡ y → Leads c p q x → Leads c p q y
-leads_as c p q e h = subst (Leads c p q) e h
+module _ (c : ℕ) (p : Pool) (q : ℕ) {x : Option Area} {y : Area} (e : x ≡ Some y) where
+  leads_as : {z : Area} → y ≡ z → Leads c p q x → Leads c p q (Some z)
+  leads_as f h = subst (Leads c p q) (e ∙ ap Some f) h
+
+  pub leads_large : {g k : ℕ} → y ≡ Area.Large g k → Leads c p q x → Run g k ≡ spot c p q
+  leads_large f h = leads_as f h
+
+  pub leads_class : {g b : ℕ} → y ≡ Area.Class g b → Leads c p q x
+      → (g < 512 * c) × (b < 30) × (4096 * g ≤ q) × (slot_spot p.slots g b (q - 4096 * g) ≡ spot c p q)
+  leads_class f h = leads_as f h
 
 -- ---- behind the check
 

@@ -20,11 +20,10 @@ pub enum Spot {
     Slot(usize, usize, usize),
 }
 
-// What a place lies in: nothing that starts there; a large run, at its first byte, by its first page and the pages behind it; a run of a
-// class, by its first page and the class.
+// What a place lies in: a large run, at its first byte, by its first page and the pages behind it; a run of a class, by its first page and
+// the class.
 #[derive(Clone, Copy)]
 pub enum Area {
-    Bare,
     Large(usize, usize),
     Class(usize, usize),
 }
@@ -54,36 +53,31 @@ fn slot_spot(slots: &[u64], g: usize, b: usize, off: usize, bytes: usize, count:
         return Spot::Nowhere(NO_BLOCK);
     }
     if bitrow::is_set(slots, 512 * g + s) {
-        return Spot::Slot(g, b, s);
+        Spot::Slot(g, b, s)
+    } else {
+        Spot::Nowhere(FREE_SLOT)
     }
-    Spot::Nowhere(FREE_SLOT)
 }
 
-// What the place q lies in.
-fn area_at(c: u64, bits: &[u64], words: &[u32], slots: &[u64], q: u64) -> Area
+// What the place q lies in, if a block or slot can start there.
+fn area_at(c: u64, bits: &[u64], words: &[u32], slots: &[u64], q: u64) -> Option<Area>
     requires { admit_of c (lent bits.now words.now slots.now) ≡ 0 }
     ensures { Leads c (before bits.now words.now slots.now) q result }
 {
     if 512 * c <= q / 4096 {
-        return Area::Bare;
+        return None;
     }
     let at = q as usize;
     let home = records::home_at(c, bits, words, slots, at / 4096);
     let g = home.first;
-    let kind = home.kind;
-    match kind {
-        records::Kind::Class(b) => {
-            return Area::Class(g, b);
-        }
-        records::Kind::Large(k) => {
-            if at % 4096 == 0 {
-                return Area::Large(g, k);
-            }
-            return Area::Bare;
-        }
-        _ => {
-            return Area::Bare;
-        }
+    match home.kind {
+        records::Kind::Class(b) => Some(Area::Class(g, b)),
+        records::Kind::Large(k) => if at % 4096 == 0 {
+            Some(Area::Large(g, k))
+        } else {
+            None
+        },
+        _ => None,
     }
 }
 
@@ -93,17 +87,13 @@ pub fn spot_at(c: u64, bits: &[u64], words: &[u32], slots: &[u64], q: u64) -> Sp
     ensures { result ≡ spot c (before bits.now words.now slots.now) q }
 {
     match area_at(c, bits, words, slots, q) {
-        Area::Bare => {
-            return Spot::Nowhere(NO_BLOCK);
-        }
-        Area::Large(g, k) => {
-            return Spot::Run(g, k);
-        }
-        Area::Class(g, b) => {
+        None => Spot::Nowhere(NO_BLOCK),
+        Some(Area::Large(g, k)) => Spot::Run(g, k),
+        Some(Area::Class(g, b)) => {
             let row = classes::class_row(b);
-            let bytes = widths::wide16(row.size);
-            let count = widths::wide16(row.slots);
-            return slot_spot(slots, g, b, (q as usize) - 4096 * g, bytes, count);
+            let bytes = usize::from(row.size);
+            let count = usize::from(row.slots);
+            slot_spot(slots, g, b, q as usize - 4096 * g, bytes, count)
         }
     }
 }
@@ -114,16 +104,14 @@ fn give_back(c: u64, bits: &mut [u64], words: &mut [u32], slots: &mut [u64], x: 
     ensures { leaves result (after bits.new words.new slots.new) ≡ leaves (released x) (give_back (before bits.old words.old slots.old) x) }
 {
     match x {
-        Spot::Nowhere(r) => {
-            return r;
-        }
+        Spot::Nowhere(r) => r,
         Spot::Run(g, k) => {
             blocks::free_large(bits, words, slots, g, k);
-            return 0;
+            0
         }
-        Spot::Slot(g, b, s) => {
+        Spot::Slot(g, _, s) => {
             blocks::put_slot(bits, words, slots, g, s, false);
-            return 0;
+            0
         }
     }
 }
@@ -143,25 +131,20 @@ pub fn size_sound(c: u64, bits: &[u64], words: &[u32], slots: &[u64], q: u64) ->
     ensures { result ≡ size_at (spot c (before bits.now words.now slots.now) q) }
 {
     match spot_at(c, bits, words, slots, q) {
-        Spot::Nowhere(r) => {
-            return Sized {
-                refusal: r,
-                size: 0,
-            };
-        }
-        Spot::Run(g, k) => {
-            let n = k + 1;
-            return Sized {
-                refusal: 0,
-                size: 4096 * widths::wide64(n),
-            };
-        }
-        Spot::Slot(g, b, s) => {
+        Spot::Nowhere(r) => Sized {
+            refusal: r,
+            size: 0,
+        },
+        Spot::Run(_, k) => Sized {
+            refusal: 0,
+            size: 4096 * (k as u64 + 1),
+        },
+        Spot::Slot(_, b, _) => {
             let row = classes::class_row(b);
-            return Sized {
+            Sized {
                 refusal: 0,
-                size: widths::wide64(widths::wide16(row.size)),
-            };
+                size: u64::from(row.size),
+            }
         }
     }
 }

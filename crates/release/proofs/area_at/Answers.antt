@@ -21,8 +21,8 @@ returns-then-at-eq0 c =
     lies_first _ _ c.requires _ (omega arith) _ _ (lies_as c.in-Large.is
     c.home_at-home.ensures) c.if-at-eq0.true
 
-pub returns-in-Large : goal.returns-in-Large
-returns-in-Large c =
+pub returns-else-at-eq0 : goal.returns-else-at-eq0
+returns-else-at-eq0 c =
     lies_behind _ _ c.requires _ (omega arith) _ _ (lies_as c.in-Large.is
     c.home_at-home.ensures) c.if-at-eq0.false
 

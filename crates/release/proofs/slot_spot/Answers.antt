@@ -6,7 +6,7 @@ use native.Mathlib.Omega.{arith}
 use Rattle.release.proofs.slot_spot.Goals as goal
 
 pub nonzero_rem-off : goal.nonzero_rem-off
-nonzero_rem-off c = let low = c.requires.low in let long = c.requires.long in let class = c.requires.class in let size = c.requires.size in let count = c.requires.count in let h = row_facts _ class in omega arith
+nonzero_rem-off c = let h = row_facts _ c.requires.class in omega arith
 
 pub returns-then-off-bytes-ne0 : goal.returns-then-off-bytes-ne0
 returns-then-off-bytes-ne0 c =
@@ -14,7 +14,7 @@ returns-then-off-bytes-ne0 c =
     slot_between _ _ _ _ (record { size_is = size; slots_is = count }) c.if-off-bytes-ne0.true
 
 pub nonzero_div-s : goal.nonzero_div-s
-nonzero_div-s c = let low = c.requires.low in let long = c.requires.long in let class = c.requires.class in let size = c.requires.size in let count = c.requires.count in let h = row_facts _ class in omega arith
+nonzero_div-s c = let h = row_facts _ c.requires.class in omega arith
 
 pub returns-then-count-s : goal.returns-then-count-s
 returns-then-count-s c =
@@ -39,8 +39,8 @@ returns-then-is_set c =
     slot_taken _ _ _ _ (record { size_is = size; slots_is = count }) c.if-off-bytes-ne0.false
     c.if-count-s.false (sym c.is_set.ensures ∙ c.if-is_set.true)
 
-pub returns : goal.returns
-returns c =
+pub returns-else-is_set : goal.returns-else-is_set
+returns-else-is_set c =
     let low = c.requires.low in let long = c.requires.long in let class = c.requires.class in let size = c.requires.size in let count = c.requires.count in
     slot_free _ _ _ _ (record { size_is = size; slots_is = count }) c.if-off-bytes-ne0.false
     c.if-count-s.false (sym c.is_set.ensures ∙ c.if-is_set.false)
