@@ -31,7 +31,7 @@ pub fn fill_word(bits: &[u64], words: &mut [u32], slots: &mut [u64], i: usize) -
         → (result ≡ word_put 1 (slice_index slots.old i) t) × (after bits.now words.new slots.new ≡ put_slot 1 (before bits.now words.old slots.old) g (64 * k + t)) }
 {
     let w = slots[i];
-    let v = w | std::num::wrapping_add_u64(w, 1);
+    let v = w | w.wrapping_add(1);
     slots[i] = v;
     v
 }
@@ -54,10 +54,8 @@ fn class_words(words: &mut [u32], g: usize, b: usize, n: usize)
     ensures { words.new ≡ sets words.old g (words_of (Class b)) }
 {
     words[g] = records::class_word(b);
-    let mut k = 1;
-    while k < n {
+    for k in 1..n {
         words[g + k] = records::inner_word(b, k);
-        k += 1;
     }
 }
 
@@ -69,8 +67,7 @@ pub fn put_class(bits: &mut [u64], words: &mut [u32], slots: &[u64], g: usize, b
     requires word { g + pages b ≤ length words.old }
     ensures { after bits.new words.new slots.now ≡ put_run 1 (before bits.old words.old slots.now) g (words_of (Class b)) }
 {
-    let row = classes::class_row(b);
-    let n = widths::wide16(row.pages);
+    let n = usize::from(classes::class_row(b).pages);
     bitrow::put_bits(bits, g, n, true);
     class_words(words, g, b, n);
 }

@@ -1,4 +1,5 @@
 -- `blocks::fill_word` meets its contract. Assumes nothing.
+use Rattle.std.proofs.Common.{refl, arith}
 use Rattle.records.specs.Pool.{pool}
 use Rattle.blocks.proofs.StoreForms.{word_filled}
 use Rattle.blocks.proofs.fill_word.Goals as goal
@@ -7,4 +8,4 @@ pub returns : goal.returns
 returns c = λ g k t.
     let i = c.args.i in
     word_filled (pool c.args.bits.now c.args.words.now c.args.slots.now) i
-    (c.slice_known-3-1.given i).fits _ g k t c.wrapping_add_u64.ensures.value
+    (omega arith) _ g k t refl

@@ -1,4 +1,5 @@
 -- `blocks::free_bit` meets its contract. Assumes nothing.
+use Rattle.std.proofs.Common.{arith}
 use Rattle.records.specs.Pool.{pool}
 use Rattle.blocks.proofs.StoreForms.{bit_freed}
 use Rattle.blocks.proofs.free_bit.Goals as goal
@@ -6,4 +7,4 @@ use Rattle.blocks.proofs.free_bit.Goals as goal
 pub returns : goal.returns
 returns c =
     let i = c.args.i in
-    bit_freed (pool c.args.bits.now c.args.words.now c.args.slots.now) i (c.slice_known-1.given i).fits _
+    bit_freed (pool c.args.bits.now c.args.words.now c.args.slots.now) i (omega arith) _

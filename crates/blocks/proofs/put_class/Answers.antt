@@ -5,16 +5,13 @@ use Rattle.blocks.proofs.StoreForms.{class_stored}
 use Rattle.blocks.proofs.put_class.Goals as goal
 
 pub put_bits-requires : goal.put_bits-requires
-put_bits-requires c =
-    let e = pages_read _ c.class_row-row.ensures c.wide16-n.ensures in (omega arith, omega arith)
+put_bits-requires c = let e = pages_read _ c.class_row.ensures c.from-n.ensures in (omega arith, omega arith)
 
 pub class_words-requires : goal.class_words-requires
 class_words-requires c =
-    let class = c.requires.class in let low = c.requires.low in let bit = c.requires.bit in let word = c.requires.word in
-    let e = pages_read _ c.class_row-row.ensures c.wide16-n.ensures in record { low = omega arith; word = omega arith; class = class; count = e }
+    let e = pages_read _ c.class_row.ensures c.from-n.ensures in record { low = omega arith; word = omega arith; class = c.requires.class; count = e }
 
 pub returns : goal.returns
 returns c =
-    let class = c.requires.class in let low = c.requires.low in let bit = c.requires.bit in let word = c.requires.word in
-    class_stored _ _ _ _ class (pages_read _ c.class_row-row.ensures c.wide16-n.ensures) _ _ c.put_bits.ensures
+    class_stored _ _ _ _ c.requires.class (pages_read _ c.class_row.ensures c.from-n.ensures) _ _ c.put_bits.ensures
     c.class_words.ensures
