@@ -5,11 +5,13 @@ ghost use Rattle.std.specs.Prelude.{◌≡◌, ◌+◌, ◌*◌, ◌<◌, ◌≤
 ghost use Rattle.classes.specs.Classes.{size};
 ghost use Rattle.records.specs.declared.Kind.TheVariants.{Class};
 ghost use Rattle.records.specs.Kinds.{slots_of};
+ghost use Rattle.records.specs.Read.{pool_of};
 ghost use Rattle.records.specs.Lent.{lent, before, after};
 ghost use Rattle.records.specs.Calls.{admit_of, leaves};
 ghost use Rattle.release.specs.Release.{slot_spot, spot, released, give_back, give, size_at};
 ghost use Rattle.release.specs.Areas.{Leads, IsSpot};
 
+use records::Records;
 use refusals::{FREE_SLOT, NO_BLOCK};
 
 // What starts at a place: nothing, with the refusal's number; a large run, by its first page and the pages behind it; a taken slot of a run.
@@ -60,15 +62,14 @@ fn slot_spot(slots: &[u64], g: usize, b: usize, off: usize, bytes: usize, count:
 }
 
 // What the place q lies in, if a block or slot can start there.
-fn area_at(c: u64, bits: &[u64], words: &[u32], slots: &[u64], q: u64) -> Option<Area>
-    requires { admit_of c (lent bits.now words.now slots.now) ≡ 0 }
-    ensures { Leads c (before bits.now words.now slots.now) q result }
+fn area_at(pool: &Records, q: u64) -> Option<Area>
+    ensures { Leads pool.now.chunks (pool_of pool.now) q result }
 {
-    if 512 * c <= q / 4096 {
+    if 512 * pool.chunks <= q / 4096 {
         return None;
     }
     let at = q as usize;
-    let home = records::home_at(c, bits, words, slots, at / 4096);
+    let home = pool.home_at(at / 4096);
     let g = home.first;
     match home.kind {
         records::Kind::Class(b) => Some(Area::Class(g, b)),
@@ -82,18 +83,17 @@ fn area_at(c: u64, bits: &[u64], words: &[u32], slots: &[u64], q: u64) -> Option
 }
 
 // What starts at the place q.
-pub fn spot_at(c: u64, bits: &[u64], words: &[u32], slots: &[u64], q: u64) -> Spot
-    requires { admit_of c (lent bits.now words.now slots.now) ≡ 0 }
-    ensures { result ≡ spot c (before bits.now words.now slots.now) q }
+pub fn spot_at(pool: &Records, q: u64) -> Spot
+    ensures { result ≡ spot pool.now.chunks (pool_of pool.now) q }
 {
-    match area_at(c, bits, words, slots, q) {
+    match area_at(pool, q) {
         None => Spot::Nowhere(NO_BLOCK),
         Some(Area::Large(g, k)) => Spot::Run(g, k),
         Some(Area::Class(g, b)) => {
             let row = classes::class_row(b);
             let bytes = usize::from(row.size);
             let count = usize::from(row.slots);
-            slot_spot(slots, g, b, q as usize - 4096 * g, bytes, count)
+            slot_spot(pool.slots, g, b, q as usize - 4096 * g, bytes, count)
         }
     }
 }
@@ -121,16 +121,21 @@ pub fn release_sound(c: u64, bits: &mut [u64], words: &mut [u32], slots: &mut [u
     requires { admit_of c (lent bits.old words.old slots.old) ≡ 0 }
     ensures { leaves result (after bits.new words.new slots.new) ≡ give c (before bits.old words.old slots.old) q }
 {
-    let x = spot_at(c, bits, words, slots, q);
+    let pool = Records {
+        chunks: c,
+        bits,
+        words,
+        slots,
+    };
+    let x = spot_at(&pool, q);
     give_back(c, bits, words, slots, x)
 }
 
 // The size that was given to the block at the place q, on records that are sound.
-pub fn size_sound(c: u64, bits: &[u64], words: &[u32], slots: &[u64], q: u64) -> Sized
-    requires { admit_of c (lent bits.now words.now slots.now) ≡ 0 }
-    ensures { result ≡ size_at (spot c (before bits.now words.now slots.now) q) }
+pub fn size_sound(pool: &Records, q: u64) -> Sized
+    ensures { result ≡ size_at (spot pool.now.chunks (pool_of pool.now) q) }
 {
-    match spot_at(c, bits, words, slots, q) {
+    match spot_at(pool, q) {
         Spot::Nowhere(r) => Sized {
             refusal: r,
             size: 0,

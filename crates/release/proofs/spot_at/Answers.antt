@@ -20,7 +20,7 @@ overflow_sub-q c = (leads_class _ _ _ c.in-Some-Class.is c.in-Some-Class.field-0
 
 pub slot_spot-requires : goal.slot_spot-requires
 slot_spot-requires c =
-    let h = (admitted _ _ c.requires).shape in
+    let h = (admitted _ _ c.args.pool.now.sound).shape in
     let l = leads_class _ _ _ c.in-Some-Class.is c.in-Some-Class.field-0-is c.area_at.ensures in
     let a = l.0 in
     record {
