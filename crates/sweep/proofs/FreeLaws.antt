@@ -7,8 +7,10 @@ use Prim.Native.Nat.{ℕ, ◌+◌, ◌*◌, ◌/◌, ◌%◌, ◌^◌, ◌≤◌
 use native.Mathlib.Decide.{ℕ_discrete}
 use native.Mathlib.Omega.{arith}
 use lib.Dec.{eqb}
-use lib.ListN.{length, get_or, set, length-set}
+use lib.ListN.{length, get_or, set, replicate, take, drop, length-set}
 use lib.Seq.{get_or-set_same, get_or-set_other}
+use borrow.Rule.Slice.PartMut.{put_mid}
+use Rattle.std.proofs.lemmas.List.{places}
 use Rattle.bitrow.specs.Row.{bit}
 use Rattle.bitrow.proofs.Words.{bit_of_zero}
 use Rattle.records.proofs.Flags.{cond_eq, cond_ne}
@@ -62,3 +64,26 @@ freed_done {ws} {ws'} {k} {w} {n} f h l = subst (WordsFreed ws ws' k w) (omega a
 -- by another number for w
 pub freed_by : {ws ws' : List ℕ} {k w v n : ℕ} → WordsFreed ws ws' k w n → v ≡ w → WordsFreed ws ws' k v n
 freed_by {ws} {ws'} {k} {w} {v} {n} f e = subst (λ (u : ℕ). WordsFreed ws ws' k u n) (sym e) f
+
+-- ---- all at once: the 64 words as one part, of which each is 0 then
+
+pub all_freed : (ws ms : List ℕ) (k n : ℕ) → 64 * k + 64 ≤ length ws → n ≡ 64 → ms ≡ replicate (length (take n (drop (64 * k) ws))) 0
+    → WordsFreed ws (put_mid (64 * k) n ws ms) k 0 64
+all_freed ws ms k n l e f =
+    record {
+      long = grind (arith, places);
+      here = λ i a. zero i (omega arith) ∙ zero_freed i (get_or ws (64 * k + i) 0);
+      other = λ j o. ⊎_elim (λ a. low j a) (λ a. high j (omega arith)) o;
+    }
+  where
+    long : length ms ≡ n
+    long = grind (arith, places)
+
+    zero : (i : ℕ) → i < n → get_or (put_mid (64 * k) n ws ms) (64 * k + i) 0 ≡ 0
+    zero i a = grind (arith, places)
+
+    low : (j : ℕ) → j < 64 * k → get_or (put_mid (64 * k) n ws ms) j 0 ≡ get_or ws j 0
+    low j a = grind (arith, places)
+
+    high : (j : ℕ) → 64 * k + n ≤ j → get_or (put_mid (64 * k) n ws ms) j 0 ≡ get_or ws j 0
+    high j a = grind (arith, places)

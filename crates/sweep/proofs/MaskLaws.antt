@@ -8,6 +8,7 @@ use native.Mathlib.Decide.{ℕ_discrete}
 use native.Mathlib.Omega.{arith}
 use lib.Bits.{bit_and, bit_or, or_lt}
 use lib.ListN.{get_or}
+use mir.Val.{bool_byte}
 use Rattle.bitrow.specs.Row.{digit, bit}
 use Rattle.bitrow.proofs.Words.{bit_suc, bit_of_zero}
 use Rattle.bitrow.proofs.Masks.{bit_or_lem, mask_in, mask_out}
@@ -28,8 +29,12 @@ use Rattle.sweep.proofs.FoundLaws.{found_by}
 -- ---- one page
 
 -- no slot bit, by the slot words
-pub idle_is : (p : Pool) (g : ℕ) {v : Bool} → ((i : ℕ) → get_or p.slots i 0 < 2 ^ 64) → v ≡ slots_clear p.slots g 0 → digit v ≡ digit (idle p g)
-idle_is p g bound e = ap digit (e ∙ page_idle p g bound)
+pub idle_is : (p : Pool) (g : ℕ) {v : Bool} → ((i : ℕ) → get_or p.slots i 0 < 2 ^ 64) → v ≡ slots_clear p.slots g 0 → bool_byte v ≡ digit (idle p g)
+idle_is p g {v} bound e = go v ∙ ap digit (e ∙ page_idle p g bound)
+  where
+    go : (u : Bool) → bool_byte u ≡ digit u
+    go true = refl
+    go false = refl
 
 -- a page that is no part of a class run
 bare_part : (k : Kind) (own before : Bool) (r : ℕ) → ClassPart r k → r < 2 → 0 ≡ digit (empty_by k own before)

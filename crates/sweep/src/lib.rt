@@ -30,10 +30,7 @@ fn idle_page(bits: &[u64], words: &[u32], slots: &[u64], g: usize) -> u64
     requires { (g < 8192) × (8 * g + 8 ≤ length slots.now) }
     ensures { result ≡ digit (idle (before bits.now words.now slots.now) g) }
 {
-    if records::any_slot(slots, g) == 0 {
-        return 1;
-    }
-    0
+    u64::from(records::any_slot(slots, g) == 0)
 }
 
 // 1 where page g lies in an empty run, else 0; `last` is that of the page before it. Only slot words of class runs are read; those of a page
@@ -48,27 +45,24 @@ fn empty_page(c: u64, bits: &[u64], words: &[u32], slots: &[u64], g: usize, last
     if part < 2 {
         return 0;
     }
-    let first = widths::wide32(3 - part);
+    let first = u64::from(3 - part);
     let idle = idle_page(bits, words, slots, g);
     idle & (last | first)
 }
 
 // The 64 pages of page-bit word k; `last` is that of the page before them.
-fn empty_64(c: u64, bits: &[u64], words: &[u32], slots: &[u64], k: usize, last: u64) -> Marks
+fn empty_64(c: u64, bits: &[u64], words: &[u32], slots: &[u64], k: usize, mut last: u64) -> Marks
     requires sound { admit_of c (lent bits.now words.now slots.now) ≡ 0 }
     requires inside { k < 8 * c }
     requires last { last ≡ digit (empty_to (lent bits.now words.now slots.now) (64 * k)) }
     ensures { Marked (before bits.now words.now slots.now) k result.mask result.last }
 {
-    let mut m: u64 = 0;
-    let mut e = last;
-    let mut i = 0;
-    while i < 64 {
-        e = empty_page(c, bits, words, slots, 64 * k + i, e);
-        m = (m / 2) | (e << 63);
-        i += 1;
+    let mut mask: u64 = 0;
+    for i in 0..64 {
+        last = empty_page(c, bits, words, slots, 64 * k + i, last);
+        mask = (mask / 2) | (last << 63);
     }
-    Marks { mask: m, last: e }
+    Marks { mask, last }
 }
 
 // The page bits without the empty runs, in the row `spare`; answers how many pages these have.
@@ -87,39 +81,23 @@ pub fn swept_bits(
     let n = 8 * (c as usize);
     let mut pages = 0;
     let mut last: u64 = 0;
-    let mut k = 0;
-    while k < n {
+    for k in 0..n {
         let x = empty_64(c, bits, words, slots, k, last);
         spare[k] = bits[k] & !x.mask;
-        pages = pages + u64::count_ones(x.mask) as usize;
+        pages += x.mask.count_ones() as usize;
         last = x.last;
-        k += 1;
     }
     pages
 }
 
-// All of the 64 pages of page-bit word k get the word 0.
-fn zero_words(words: &mut [u32], k: usize)
-    requires { (k < 128) × (64 * k + 64 ≤ length words.old) }
-    ensures { WordsFreed words.old words.new k 0 64 }
-{
-    let mut i = 0;
-    while i < 64 {
-        words[64 * k + i] = 0;
-        i += 1;
-    }
-}
-
-// Of these pages, those whose bit in w is 0.
+// Of the 64 pages of page-bit word k, those whose bit in w is 0 get the word 0.
 fn free_words(words: &mut [u32], k: usize, w: u64)
     requires { (k < 128) × (64 * k + 64 ≤ length words.old) }
     ensures { WordsFreed words.old words.new k w 64 }
 {
-    let mut i = 0;
-    while i < 64 {
+    for i in 0..64 {
         let x = words[64 * k + i];
         words[64 * k + i] = if (w >> i) % 2 == 1 { x } else { 0 };
-        i += 1;
     }
 }
 
@@ -129,10 +107,10 @@ fn free_64(words: &mut [u32], k: usize, w: u64)
     ensures { WordsFreed words.old words.new k w 64 }
 {
     if w == 0 {
-        zero_words(words, k);
-        return;
+        words[64 * k..64 * k + 64].fill(0);
+    } else {
+        free_words(words, k, w);
     }
-    free_words(words, k, w);
 }
 
 // The empty runs are given back; `spare` has the page bits without them.
@@ -142,14 +120,12 @@ pub fn give_back(c: u64, bits: &mut [u64], words: &mut [u32], slots: &[u64], spa
     ensures { after bits.new words.new slots.now ≡ swept c (before bits.old words.old slots.now) }
 {
     let n = 8 * (c as usize);
-    let mut k = 0;
-    while k < n {
+    for k in 0..n {
         let w = spare[k];
         if bits[k] != w {
             free_64(words, k, w);
             bits[k] = w;
         }
-        k += 1;
     }
 }
 
@@ -163,6 +139,6 @@ pub fn sweep_sound(c: u64, bits: &mut [u64], words: &mut [u32], slots: &[u64]) -
     give_back(c, bits, words, slots, &spare);
     Swept {
         refusal: 0,
-        pages: widths::wide64(pages),
+        pages: pages as u64,
     }
 }

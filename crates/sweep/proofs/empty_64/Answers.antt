@@ -5,17 +5,13 @@ use Rattle.sweep.proofs.MaskLaws.{marking_none, marking_on, marking_done}
 use Rattle.sweep.proofs.empty_64.Goals as goal
 
 pub loop-i-init : goal.loop-i-init
-loop-i-init c =
-    let sound = c.requires.sound in let inside = c.requires.inside in let last = c.requires.last in
-    (omega arith, (admitted _ _ sound).shape.few, marking_none _ _ _ last)
+loop-i-init c = ((admitted _ _ c.requires.sound).shape.few, marking_none _ _ _ c.requires.last)
 
-pub empty_page-e-requires : goal.empty_page-e-requires
-empty_page-e-requires c =
-    let sound = c.requires.sound in let inside = c.requires.inside in let last = c.requires.last in record { sound = sound; inside = omega arith; last = c.loop-i.invariant.2.end }
+pub empty_page-last-requires : goal.empty_page-last-requires
+empty_page-last-requires c = record { sound = c.requires.sound; inside = omega arith; last = c.loop-i.invariant.1.end }
 
 pub loop-i-preserved : goal.loop-i-preserved
-loop-i-preserved c =
-    let d = c.loop-i.invariant in (omega arith, d.1, marking_on _ d.2 (omega arith) c.empty_page-e.ensures)
+loop-i-preserved c = let d = c.loop-i.invariant in (d.0, marking_on _ d.1 (omega arith) c.empty_page-last.ensures)
 
 pub returns : goal.returns
-returns c = let d = c.loop-i.invariant in marking_done d.2 d.0 (omega arith)
+returns c = marking_done c.loop-i.invariant.1 (omega arith) (omega arith)

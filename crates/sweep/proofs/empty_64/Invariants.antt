@@ -1,11 +1,8 @@
 -- `sweep::empty_64` meets its contract. Assumes nothing.
-use Prim.Native.Nat.{◌≤◌, ◌-◌}
+use Prim.Native.Nat.{◌≤◌}
 use Rattle.records.specs.Pool.{pool}
 use Rattle.sweep.proofs.MaskLaws.{Marking}
 use Rattle.sweep.proofs.empty_64.Given as goal
 
 abbrev pub invariant-loop-i : goal.invariant-loop-i
-invariant-loop-i l = (l.i ≤ 64) × (l.c ≤ 16) × Marking (pool l.bits l.words l.slots) l.k l.i l.m l.e
-
-abbrev pub decreases-loop-i : goal.decreases-loop-i
-decreases-loop-i l = 64 - l.i
+invariant-loop-i l = (l.c ≤ 16) × Marking (pool l.bits l.words l.slots) l.k l.i l.mask l.last

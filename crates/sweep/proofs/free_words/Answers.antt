@@ -6,23 +6,15 @@ use Rattle.sweep.proofs.free_words.Goals as goal
 use Rattle.sweep.proofs.free_words.Goals.{then-w-i-eq1, else-w-i-eq1}
 
 pub loop-i-init : goal.loop-i-init
-loop-i-init c = (omega arith, freed_none _ _ _)
-
-pub bounds-words-k : goal.bounds-words-k
-bounds-words-k c = omega (arith, c.loop-i.invariant.1.long)
-
-pub bounds-words-k-in-loop-i : goal.bounds-words-k-in-loop-i
-bounds-words-k-in-loop-i c = omega (arith, c.loop-i.invariant.1.long)
+loop-i-init c = freed_none _ _ _
 
 pub loop-i-preserved : goal.loop-i-preserved
-loop-i-preserved c = (
-  omega arith,
-  freed_more _ c.loop-i.invariant.1 (omega arith)
-      (elim c.if-w-i-eq1.branch [ then-w-i-eq1 x ↦ x.words-is ∙ word_kept _ _ _ x.if-w-i-eq1.true | else-w-i-eq1 x ↦ x.words-is ∙ word_freed _ _ _ x.if-w-i-eq1.false ]),
-)
-
-pub shape_of-words : goal.shape_of-words
-shape_of-words c = c.loop-i.invariant.1.long
+loop-i-preserved c =
+    freed_more _ c.loop-i.invariant (omega arith)
+    (elim c.if-w-i-eq1.branch [
+      | then-w-i-eq1 x ↦ x.words-is ∙ word_kept _ _ _ x.if-w-i-eq1.true
+      | else-w-i-eq1 x ↦ x.words-is ∙ word_freed _ _ _ x.if-w-i-eq1.false
+    ])
 
 pub returns : goal.returns
-returns c = freed_done c.loop-i.invariant.1 c.loop-i.invariant.0 (omega arith)
+returns c = freed_done c.loop-i.invariant (omega arith) (omega arith)

@@ -10,38 +10,28 @@ pub overflow_mul-n : goal.overflow_mul-n
 overflow_mul-n c = let l = (admitted _ _ c.requires.sound).shape in omega arith
 
 pub loop-k-init : goal.loop-k-init
-loop-k-init c = (omega arith, (admitted _ _ c.requires.sound).shape.few, giving_none _ _)
+loop-k-init c = ((admitted _ _ c.requires.sound).shape.few, giving_none _ _)
 
 pub bounds-bits-k : goal.bounds-bits-k
-bounds-bits-k c =
-    let l = (admitted _ _ c.requires.sound).shape in
-    omega (arith, c.loop-k.invariant.2.bits_long)
+bounds-bits-k c = let l = (admitted _ _ c.requires.sound).shape in omega arith
 
 pub free_64-requires : goal.free_64-requires
-free_64-requires c =
-    let l = (admitted _ _ c.requires.sound).shape in
-    (omega arith, omega (arith, c.loop-k.invariant.2.words_long))
+free_64-requires c = let l = (admitted _ _ c.requires.sound).shape in (omega arith, omega arith)
 
 pub bounds-bits-k-then-bits-k : goal.bounds-bits-k-then-bits-k
-bounds-bits-k-then-bits-k c =
-    let l = (admitted _ _ c.requires.sound).shape in
-    omega (arith, c.loop-k.invariant.2.bits_long)
+bounds-bits-k-then-bits-k c = let l = (admitted _ _ c.requires.sound).shape in omega arith
 
 pub loop-k-preserved : goal.loop-k-preserved
 loop-k-preserved c =
-    let (k, few, f) = c.loop-k.invariant in
+    let (few, f) = c.loop-k.invariant in
     let good = admit_good _ _ c.requires.sound in
     let x = c.requires.spare.words c.loop-k.k (omega arith) in (
-      omega arith,
       few,
-      elim c.if-bits-k.branch [ then-bits-k z ↦ rw (z.bits-is, z.words-is) (giving_on good f (omega arith) x z.free_64.ensures) | else-bits-k z ↦ rw (z.bits-is, z.words-is) (giving_stays good f (omega arith) x z.if-bits-k.false) ],
+      elim c.if-bits-k.branch [
+        | then-bits-k z ↦ rw (z.bits-is, z.words-is) (giving_on good f (omega arith) x z.free_64.ensures)
+        | else-bits-k z ↦ rw (z.bits-is, z.words-is) (giving_stays good f (omega arith) x z.if-bits-k.false)
+      ],
     )
 
-pub shape_of-bits : goal.shape_of-bits
-shape_of-bits c = c.loop-k.invariant.2.bits_long
-
-pub shape_of-words : goal.shape_of-words
-shape_of-words c = c.loop-k.invariant.2.words_long
-
 pub returns : goal.returns
-returns c = giving_done (admit_good _ _ c.requires.sound) c.loop-k.invariant.2 (omega arith)
+returns c = giving_done (admit_good _ _ c.requires.sound) c.loop-k.invariant.1 (omega arith)
