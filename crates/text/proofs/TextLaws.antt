@@ -139,38 +139,16 @@ module _ {n p k : ℕ} (d : Digits n p k) where
   pub digits_full : k ≡ 20 → Fits w64 n → Long n 20
   digits_full e h = (omega (arith, d.least, decimal_short 19 n (omega arith)), omega arith, omega arith)
 
--- the j last digits of m
-unfoldable pub last_digits : ℕ → ℕ → List ℕ
-last_digits zero m = []
-last_digits (suc j) m = last_digits j (m / 10) ++ (48 + m % 10) ∷ []
+-- the last digit of m is stored; those in front are left
+pub digit_turn : (o : List ℕ) (at i m : ℕ) → 10 ≤ m → i + 1 ≡ at + length (decimal m) → sets (set o i (48 + m % 10)) at (decimal (m / 10)) ≡ sets o at (decimal m)
+digit_turn o at i m h e =
+    let p : i ≡ at + length (decimal (m / 10)) = omega (arith, decimal_length_large m h) in
+    rw (p, decimal_large m h) (sets_last o at (48 + m % 10) (decimal (m / 10)))
 
-length-last_digits : (j m : ℕ) → length (last_digits j m) ≡ j
-unfolding last_digits
-length-last_digits zero m = refl
-length-last_digits (suc j) m = omega (arith, length-append (last_digits j (m / 10)) ((48 + m % 10) ∷ []), length-last_digits j (m / 10))
-
-pub last_all : (j m : ℕ) → length (decimal m) ≡ j → last_digits j m ≡ decimal m
-unfolding last_digits
-last_all zero m e = Prim.absurd (omega (arith, decimal_some m))
-last_all (suc j) m e =
-    by_cases (dec_lt m 10)
-    (λ s. let none : j ≡ 0 = omega (arith, decimal_length_small m s) in let same : m % 10 ≡ m = omega arith in rw (none, same, decimal_small m s))
-    (λ s. let b : 10 ≤ m = omega arith in
-    ap (λ (l : List ℕ). l ++ (48 + m % 10) ∷ []) (last_all j (m / 10) (omega (arith, decimal_length_large m b))) ∙ sym (decimal_large m b))
-
--- a turn of the loop: the last digit of m is stored, and those in front of it are left
-pub last_turn : (o : List ℕ) (at i m : ℕ) → at < i
-    → sets (set o (i - 1) (48 + m % 10)) at (last_digits (i - 1 - at) (m / 10)) ≡ sets o at (last_digits (i - at) m)
-unfolding last_digits
-last_turn o at i m h =
-    let p : i - 1 ≡ at + length (last_digits (i - 1 - at) (m / 10)) = omega (arith, length-last_digits (i - 1 - at) (m / 10)) in
-    let q : suc (i - 1 - at) ≡ i - at = omega arith in
-    ap (λ (k : ℕ). sets (set o k (48 + m % 10)) at (last_digits (i - 1 - at) (m / 10))) p
-    ∙ sets_last o at (48 + m % 10) (last_digits (i - 1 - at) (m / 10)) ∙ ap (λ (k : ℕ). sets o at (last_digits k m)) q
-
-pub last_none : (o : List ℕ) (at i m : ℕ) → i ≤ at → sets o at (last_digits (i - at) m) ≡ o
-unfolding last_digits
-last_none o at i m h = let none : i - at ≡ 0 = omega arith in rw none
+pub digit_done : (o : List ℕ) (at i m : ℕ) → m < 10 → i + 1 ≡ at + length (decimal m) → set o i (48 + m) ≡ sets o at (decimal m)
+digit_done o at i m h e =
+    let p : i ≡ at = omega (arith, decimal_length_small m h) in
+    rw (p, decimal_small m h)
 
 -- ---- what a byte of a template writes
 

@@ -19,18 +19,22 @@ pub fn decimal_length(n: u64) -> usize
     20
 }
 
-// A number in decimal, from its last digit to its first.
+// A number in decimal, from its last digit to its first. It is printed by hand, since no clause of the library's `write!` into a slice
+// says which bytes stand there then. The loop ends by the number: a `for` over the places takes longer where the digits are few.
 pub fn put_decimal(out: &mut [u8], at: usize, n: u64) -> usize
     requires { at + length (decimal n) ≤ length out.old }
     ensures { Appends out.old out.new at result (decimal n) }
 {
-    let to = at + decimal_length(n);
+    let k = decimal_length(n);
     let mut m = n;
-    for i in (at..to).rev() {
+    let mut i = at + k - 1;
+    while 10 <= m {
         out[i] = b'0' + (m % 10) as u8;
         m /= 10;
+        i -= 1;
     }
-    to
+    out[i] = b'0' + m as u8;
+    at + k
 }
 
 // The number at index k, 0 where there is none.
