@@ -4,11 +4,14 @@
 
 ghost use Rattle.std.specs.Prelude.{◌≡◌, suc, ◌+◌, ◌*◌, ◌<◌, ◌≤◌, length};
 ghost use Rattle.bitrow.specs.Row.{digit};
+ghost use Rattle.records.specs.Read.{pool_of};
 ghost use Rattle.records.specs.Lent.{lent, before, after};
 ghost use Rattle.records.specs.Sound.{idle};
 ghost use Rattle.records.specs.Calls.{admit_of, leaves};
 ghost use Rattle.sweep.specs.Sweep.{empty_from, swept, gained};
 ghost use Rattle.sweep.specs.Found.{empty_to, Marked, Spare, WordsFreed};
+
+use records::Records;
 
 // The answer of a sweep; C reads it as it is.
 #[repr(C)]
@@ -35,54 +38,46 @@ fn idle_page(bits: &[u64], words: &[u32], slots: &[u64], g: usize) -> u64
 
 // 1 where page g lies in an empty run, else 0; `last` is that of the page before it. Only slot words of class runs are read; those of a page
 // behind the first are all 0, so that first page and others need no branch between them.
-fn empty_page(c: u64, bits: &[u64], words: &[u32], slots: &[u64], g: usize, last: u64) -> u64
-    requires sound { admit_of c (lent bits.now words.now slots.now) ≡ 0 }
-    requires inside { g < 512 * c }
-    requires last { last ≡ digit (empty_to (lent bits.now words.now slots.now) g) }
-    ensures { result ≡ digit (empty_to (before bits.now words.now slots.now) (suc g)) }
+fn empty_page(pool: &Records, g: usize, last: u64) -> u64
+    requires inside { g < 512 * pool.now.chunks }
+    requires last { last ≡ digit (empty_to (pool_of pool.now) g) }
+    ensures { result ≡ digit (empty_to (pool_of pool.now) (suc g)) }
 {
-    let part = records::class_part(c, bits, words, slots, g);
+    let part = pool.class_part(g);
     if part < 2 {
         return 0;
     }
     let first = u64::from(3 - part);
-    let idle = idle_page(bits, words, slots, g);
+    let idle = idle_page(pool.bits, pool.words, pool.slots, g);
     idle & (last | first)
 }
 
 // The 64 pages of page-bit word k; `last` is that of the page before them.
-fn empty_64(c: u64, bits: &[u64], words: &[u32], slots: &[u64], k: usize, mut last: u64) -> Marks
-    requires sound { admit_of c (lent bits.now words.now slots.now) ≡ 0 }
-    requires inside { k < 8 * c }
-    requires last { last ≡ digit (empty_to (lent bits.now words.now slots.now) (64 * k)) }
-    ensures { Marked (before bits.now words.now slots.now) k result.mask result.last }
+fn empty_64(pool: &Records, k: usize, mut last: u64) -> Marks
+    requires inside { k < 8 * pool.now.chunks }
+    requires last { last ≡ digit (empty_to (pool_of pool.now) (64 * k)) }
+    ensures { Marked (pool_of pool.now) k result.mask result.last }
 {
     let mut mask: u64 = 0;
     for i in 0..64 {
-        last = empty_page(c, bits, words, slots, 64 * k + i, last);
+        last = empty_page(pool, 64 * k + i, last);
         mask = (mask / 2) | (last << 63);
     }
     Marks { mask, last }
 }
 
 // The page bits without the empty runs, in the row `spare`; answers how many pages these have.
-pub fn swept_bits(
-    c: u64,
-    bits: &[u64],
-    words: &[u32],
-    slots: &[u64],
-    spare: &mut [u64; 128],
-) -> usize
-    requires sound { admit_of c (lent bits.now words.now slots.now) ≡ 0 }
-    requires long { length spare.old ≡ 128 }
-    ensures spare { Spare c (before bits.now words.now slots.now) spare.new }
-    ensures pages { result ≡ empty_from (before bits.now words.now slots.now) 0 (512 * c) }
+pub fn swept_bits(pool: &Records, spare: &mut [u64; 128]) -> usize
+    requires { length spare.old ≡ 128 }
+    ensures spare { Spare pool.now.chunks (pool_of pool.now) spare.new }
+    ensures pages { result ≡ empty_from (pool_of pool.now) 0 (512 * pool.now.chunks) }
 {
-    let n = 8 * (c as usize);
+    let n = 8 * (pool.chunks as usize);
+    let bits = pool.bits;
     let mut pages = 0;
     let mut last: u64 = 0;
     for k in 0..n {
-        let x = empty_64(c, bits, words, slots, k, last);
+        let x = empty_64(pool, k, last);
         spare[k] = bits[k] & !x.mask;
         pages += x.mask.count_ones() as usize;
         last = x.last;
@@ -134,8 +129,14 @@ pub fn sweep_sound(c: u64, bits: &mut [u64], words: &mut [u32], slots: &[u64]) -
     requires { admit_of c (lent bits.old words.old slots.now) ≡ 0 }
     ensures { leaves result (after bits.new words.new slots.now) ≡ leaves (gained 0 (empty_from (before bits.old words.old slots.now) 0 (512 * c))) (swept c (before bits.old words.old slots.now)) }
 {
+    let pool = Records {
+        chunks: c,
+        bits,
+        words,
+        slots,
+    };
     let mut spare = [0; 128];
-    let pages = swept_bits(c, bits, words, slots, &mut spare);
+    let pages = swept_bits(&pool, &mut spare);
     give_back(c, bits, words, slots, &spare);
     Swept {
         refusal: 0,

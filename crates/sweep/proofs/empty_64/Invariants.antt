@@ -5,4 +5,4 @@ use Rattle.sweep.proofs.MaskLaws.{Marking}
 use Rattle.sweep.proofs.empty_64.Given as goal
 
 abbrev pub invariant-loop-i : goal.invariant-loop-i
-invariant-loop-i l = (l.c ≤ 16) × Marking (pool l.bits l.words l.slots) l.k l.i l.mask l.last
+invariant-loop-i l = (l.pool.chunks ≤ 16) × Marking (pool l.pool.bits.now l.pool.words.now l.pool.slots.now) l.k l.i l.mask l.last

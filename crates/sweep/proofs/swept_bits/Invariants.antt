@@ -5,4 +5,4 @@ use Rattle.sweep.proofs.SpareLaws.{Sparing}
 use Rattle.sweep.proofs.swept_bits.Given as goal
 
 abbrev pub invariant-loop-k : goal.invariant-loop-k
-invariant-loop-k l = (l.c ≤ 16) × Sparing l.c (pool l.bits l.words l.slots) l.k l.spare l.last l.pages
+invariant-loop-k l = (l.pool.chunks ≤ 16) × Sparing l.pool.chunks (pool l.pool.bits.now l.pool.words.now l.pool.slots.now) l.k l.spare l.last l.pages
