@@ -20,34 +20,28 @@ use Rattle.reserve.specs.declared.Given.TheVariants.{Slot, Run}
 use Rattle.reserve.specs.declared.Reserved.{Reserved}
 use Rattle.reserve.specs.Reserve.{plan, is_full, perform, slot_given, answer, attempt, serve, reserve_of}
 use Rattle.reserve.specs.Reserve as reserve
-use Rattle.reserve.specs.Plans.{PlanOk, PlanLow, PlanSize}
+use Rattle.reserve.specs.Plans.{PlanOk, PlanLow}
 use Rattle.reserve.proofs.PlanLaws.{plan_ok}
 use Rattle.reserve.proofs.StoreForms.{slot_few}
 
 -- ---- a slot
 
-pub slot_room : {b s n z : ℕ} → b < 30 → s < 512 → n ≡ s → z ≡ size b → n * z ≤ 1569792
-slot_room {b} {s} {n} {z} l h e f =
+pub slot_room : {b s z : ℕ} → b < 30 → s < 512 → z ≡ size b → s * z ≤ 1569792
+slot_room {b} {s} {z} l h f =
     let r = row_facts b l in let k = r.size_most in
-    let m = mul-le-mul {n₁ = n} {m₁ = z} {n₂ = 511} {m₂ = 3072} (omega arith) (omega arith) in omega arith
+    let m = mul-le-mul {n₁ = s} {m₁ = z} {n₂ = 511} {m₂ = 3072} (omega arith) (omega arith) in omega arith
 
-pub slot_is : {g b s k f n z : ℕ} → k ≡ b → f ≡ g → n ≡ s → z ≡ size b
-    → record { refusal = 0; place = 4096 * f + n * z; size = z; kind = Slot (record { class = k; first = f % 512; number = n }) } ≡ slot_given g b s
-slot_is e f g h = cc
+pub slot_is : (g b s : ℕ) {z : ℕ} → z ≡ size b
+    → record { refusal = 0; place = 4096 * g + s * z; size = z; kind = Slot (record { class = b; first = g % 512; number = s }) } ≡ slot_given g b s
+slot_is g b s e = cc
 
-pub large_is : {g k f m : ℕ} → f ≡ g → m ≡ k + 1 → record { refusal = 0; place = 4096 * f; size = 4096 * m; kind = Run m } ≡ answer (NewLarge g k)
-large_is {k = k} {m = m} e f = let h : m ≡ suc k = omega arith in cc
+pub large_is : (g k : ℕ) {m : ℕ} → m ≡ k + 1 → record { refusal = 0; place = 4096 * g; size = 4096 * m; kind = Run m } ≡ answer (NewLarge g k)
+large_is g k {m} f = let h : m ≡ suc k = omega arith in cc
 
 -- ---- the plan, as it was matched
 
 pub answer_as : {x y : Plan} {r : Reserved} → x ≡ y → r ≡ answer y → r ≡ answer x
 answer_as e f = f ∙ ap answer (sym e)
-
-pub size_as : {x y : Plan} (z : ℕ) → x ≡ y → PlanSize y z → PlanSize x z
-size_as z e h = subst (λ (w : Plan). PlanSize w z) (sym e) h
-
-pub size_of : {x y : Plan} (z : ℕ) → x ≡ y → PlanSize x z → PlanSize y z
-size_of z e h = subst (λ (w : Plan). PlanSize w z) e h
 
 pub low_as : {x y : Plan} → x ≡ y → PlanLow x → PlanLow y
 low_as e h = subst PlanLow e h

@@ -19,8 +19,7 @@ use Rattle.records.specs.Pool.{Pool, kind_at, slot_at}
 use Rattle.records.specs.Sound.{sound}
 use Rattle.records.proofs.Flags.{and_left, and_right, cond_lt, cond_nlt, cond_le, cond_nle, lt_cases, le_cases}
 use Rattle.records.proofs.WordLaws.{page_free, run_of}
-use Rattle.gaps.specs.declared.Found.{Found}
-use Rattle.gaps.specs.declared.Found.TheVariants.{At, Nothing}
+use Rattle.std.specs.Prelude.{Option, Some, None}
 use Rattle.gaps.specs.Gaps.{find_pages}
 use Rattle.gaps.proofs.Answers.{found_free}
 use Rattle.blocks.specs.Blocks.{IsSlot}
@@ -122,7 +121,7 @@ has_free c p b g l e =
 -- ---- free pages
 
 module _ (c : ℕ) (p : Pool) (s : sound c p ≡ true) where
-  gap_free : (n g : ℕ) → 1 ≤ n → find_pages c p.bits n ≡ At g → PagesFree c p g n
+  gap_free : (n g : ℕ) → 1 ≤ n → find_pages c p.bits n ≡ Some g → PagesFree c p g n
   gap_free n g a e =
       let f = found_free c p.bits n g e in
       let x = f.exists in let y = f.inside in let z = f.off in
@@ -137,17 +136,17 @@ module _ (c : ℕ) (p : Pool) (s : sound c p ≡ true) where
   unfolding plan_run
   run_ok n a = go (find_pages c p.bits n) refl
     where
-      go : (x : Found) → find_pages c p.bits n ≡ x → PlanOk c p (if_found x (λ g. NewLarge g (n - 1)))
-      go (At g) e = let r : n ≡ suc (n - 1) = omega arith in subst (PagesFree c p g) r (gap_free n g a e)
-      go Nothing e = omega arith
+      go : (x : Option ℕ) → find_pages c p.bits n ≡ x → PlanOk c p (if_found x (λ g. NewLarge g (n - 1)))
+      go (Some g) e = let r : n ≡ suc (n - 1) = omega arith in subst (PagesFree c p g) r (gap_free n g a e)
+      go None e = omega arith
 
   pub class_ok : (b : ℕ) → b < 30 → PlanOk c p (plan_class c p.bits b)
   unfolding plan_class
   class_ok b l = go (find_pages c p.bits (pages b)) refl
     where
-      go : (x : Found) → find_pages c p.bits (pages b) ≡ x → PlanOk c p (if_found x (λ g. NewClass g b))
-      go (At g) e = (l, gap_free (pages b) g (row_facts b l).pages_least e)
-      go Nothing e = omega arith
+      go : (x : Option ℕ) → find_pages c p.bits (pages b) ≡ x → PlanOk c p (if_found x (λ g. NewClass g b))
+      go (Some g) e = (l, gap_free (pages b) g (row_facts b l).pages_least e)
+      go None e = omega arith
 
   pub slot_ok : (b : ℕ) → b < 30 → PlanOk c p (plan_slot c p b)
   unfolding plan_slot slot_or_run
@@ -188,23 +187,23 @@ module _ (c : ℕ) (p : Pool) (b : ℕ) where
   unfolding plan_slot slot_or_run
   plan_new g x e l f = f ∙ sym (ap (slot_or_run c p b) (sym e) ∙ cond_nlt g (512 * c) _ _ l)
 
-module _ (c : ℕ) (bits : List ℕ) (b n : ℕ) (x : Found) (m : n ≡ pages b) (h : x ≡ find_pages c bits n) where
-  pub class_at : (g : ℕ) → x ≡ At g → NewClass g b ≡ plan_class c bits b
+module _ (c : ℕ) (bits : List ℕ) (b n : ℕ) (x : Option ℕ) (m : n ≡ pages b) (h : x ≡ find_pages c bits n) where
+  pub class_at : (g : ℕ) → x ≡ Some g → NewClass g b ≡ plan_class c bits b
   unfolding plan_class
-  class_at g k = ap (λ (y : Found). if_found y (λ i. NewClass i b)) (sym k ∙ h ∙ ap (find_pages c bits) m)
+  class_at g k = ap (λ (y : Option ℕ). if_found y (λ i. NewClass i b)) (sym k ∙ h ∙ ap (find_pages c bits) m)
 
-  pub class_none : x ≡ Nothing → Refuse no_room ≡ plan_class c bits b
+  pub class_none : x ≡ None → Refuse no_room ≡ plan_class c bits b
   unfolding plan_class
-  class_none k = ap (λ (y : Found). if_found y (λ i. NewClass i b)) (sym k ∙ h ∙ ap (find_pages c bits) m)
+  class_none k = ap (λ (y : Option ℕ). if_found y (λ i. NewClass i b)) (sym k ∙ h ∙ ap (find_pages c bits) m)
 
-module _ (c : ℕ) (bits : List ℕ) (n : ℕ) (x : Found) (h : x ≡ find_pages c bits n) where
-  pub run_at : (g : ℕ) → x ≡ At g → NewLarge g (n - 1) ≡ plan_run c bits n
+module _ (c : ℕ) (bits : List ℕ) (n : ℕ) (x : Option ℕ) (h : x ≡ find_pages c bits n) where
+  pub run_at : (g : ℕ) → x ≡ Some g → NewLarge g (n - 1) ≡ plan_run c bits n
   unfolding plan_run
-  run_at g k = ap (λ (y : Found). if_found y (λ i. NewLarge i (n - 1))) (sym k ∙ h)
+  run_at g k = ap (λ (y : Option ℕ). if_found y (λ i. NewLarge i (n - 1))) (sym k ∙ h)
 
-  pub run_none : x ≡ Nothing → Refuse no_room ≡ plan_run c bits n
+  pub run_none : x ≡ None → Refuse no_room ≡ plan_run c bits n
   unfolding plan_run
-  run_none k = ap (λ (y : Found). if_found y (λ i. NewLarge i (n - 1))) (sym k ∙ h)
+  run_none k = ap (λ (y : Option ℕ). if_found y (λ i. NewLarge i (n - 1))) (sym k ∙ h)
 
 module _ (c : ℕ) (p : Pool) (n : ℕ) where
   pub plan_small : (b : ℕ) (x : Plan) → n ≤ 3072 → b ≡ class_for n → x ≡ plan_slot c p b → x ≡ plan c p n

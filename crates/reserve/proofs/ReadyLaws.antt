@@ -13,8 +13,7 @@ use Rattle.classes.specs.Classes.{pages, class_for}
 use Rattle.records.specs.Pool.{Pool, slot_at}
 use Rattle.records.specs.Calls.{admit_of, Left, leaves}
 use Rattle.records.proofs.Flags.{cond_le, cond_nle, lt_cases, le_cases}
-use Rattle.gaps.specs.declared.Found.{Found}
-use Rattle.gaps.specs.declared.Found.TheVariants.{At, Nothing}
+use Rattle.std.specs.Prelude.{Option, Some, None}
 use Rattle.gaps.specs.Gaps.{find_pages}
 use Rattle.gaps.proofs.Answers.{find_same}
 use Rattle.blocks.specs.Blocks.{Block, block, live, Ins}
@@ -39,7 +38,7 @@ use Rattle.reserve.proofs.MeanLaws.{attempt_gains, attempt_kept, found_run}
 module _ (c : ℕ) (l l' : List ℕ) (h : (i : ℕ) → i < 512 * c → bit_at l i ≡ bit_at l' i) where
   class_same : (b : ℕ) → plan_class c l b ≡ plan_class c l' b
   unfolding plan_class
-  class_same b = ap (λ (x : Found). if_found x (λ g. NewClass g b)) (find_same l l' c (pages b) h)
+  class_same b = ap (λ (x : Option ℕ). if_found x (λ g. NewClass g b)) (find_same l l' c (pages b) h)
 
   large_same : (n : ℕ) → plan_large c l n ≡ plan_large c l' n
   unfolding plan_large plan_run
@@ -164,9 +163,9 @@ module _ (c n r : ℕ) where
   abbrev Short : Plan → Type 0
   Short x = (answer x).refusal ≡ suc r → (is_full x ≡ true) ⊎ (2093056 < n)
 
-  found_short : (x : Found) (f : ℕ → Plan) → ((g : ℕ) → (answer (f g)).refusal ≡ 0) → Short (if_found x f)
-  found_short (At g) f z e = absurd (omega (arith, z g))
-  found_short Nothing f z e = inl (eq-eqb no_room no_room refl)
+  found_short : (x : Option ℕ) (f : ℕ → Plan) → ((g : ℕ) → (answer (f g)).refusal ≡ 0) → Short (if_found x f)
+  found_short (Some g) f z e = absurd (omega (arith, z g))
+  found_short None f z e = inl (eq-eqb no_room no_room refl)
 
   plan_short : (p : Pool) → Short (plan c p n)
   unfolding plan plan_slot slot_or_run plan_class plan_large plan_run

@@ -1,6 +1,6 @@
 -- What a plan may rely on: the slot is free, the pages are free. Assumes nothing.
 use Rattle.std.specs.Prelude.{◌≡◌, false, cond, List, ℕ, suc, ◌+◌, ◌*◌, ◌≤◌, ◌<◌, leb}
-use Rattle.classes.specs.Classes.{size, pages, class_for}
+use Rattle.classes.specs.Classes.{pages, class_for}
 use Rattle.records.specs.declared.Kind.TheVariants.{Free}
 use Rattle.records.specs.Pool.{Pool, kind_at}
 use Rattle.blocks.specs.Blocks.{IsSlot}
@@ -27,13 +27,6 @@ PlanLow (Refuse r) = Unit {0}
 PlanLow (TakeSlot g b s) = (g < 8192) × (b < 30) × (s < 512)
 PlanLow (NewClass g b) = (g < 8192) × (b < 30)
 PlanLow (NewLarge g k) = (g < 8192) × (k < 511)
-
--- the size of the slot that a plan is for
-abbrev pub PlanSize : Plan → ℕ → Type 0
-PlanSize (Refuse r) z = Unit {0}
-PlanSize (TakeSlot g b s) z = z ≡ size b
-PlanSize (NewClass g b) z = z ≡ size b
-PlanSize (NewLarge g k) z = Unit {0}
 
 -- where no slot is free, n bytes take new pages: the plan by the page bits alone
 unfoldable pub plan_pages : ℕ → List ℕ → ℕ → Plan

@@ -1,5 +1,6 @@
 -- Reserve (RULES 5.2): what is looked for, what is stored, what is answered. Assumes nothing.
-use Rattle.std.specs.Prelude.{Bool, false, cond, ◌&&◌, List, ℕ, zero, suc, ◌+◌, ◌-◌, ◌*◌, ◌/◌, ◌%◌, eqb, ltb, leb}
+use Rattle.std.specs.Prelude.{Bool, false, cond, ◌&&◌, List, ℕ, zero, suc, ◌+◌, ◌-◌, ◌*◌, ◌/◌, ◌%◌, eqb, ltb, leb, Option, Some}
+use Rattle.std.specs.Prelude as Prelude
 use Rattle.refusals.specs.Refusals.{unless, no_room, too_big}
 use Rattle.bitrow.specs.Row.{next_bit}
 use Rattle.classes.specs.Classes.{size, slots, pages, class_for}
@@ -7,8 +8,6 @@ use Rattle.records.specs.declared.Kind.TheVariants.{Large, Class}
 use Rattle.records.specs.Kinds.{words_of, is_run_of}
 use Rattle.records.specs.Pool.{Pool, kind_at}
 use Rattle.records.specs.Calls.{admit_of, Left, leaves}
-use Rattle.gaps.specs.declared.Found.{Found}
-use Rattle.gaps.specs.declared.Found.TheVariants.{At, Nothing}
 use Rattle.gaps.specs.Gaps.{find_pages}
 use Rattle.blocks.specs.Stores.{put_run, put_slot}
 use Rattle.sweep.specs.Sweep.{swept}
@@ -34,9 +33,9 @@ slot_page p b g (suc n) = let later = slot_page p b (suc g) n in cond (has_slot 
 
 -- ---- what a reserve will do on given records
 
-abbrev pub if_found : Found → (ℕ → Plan) → Plan
-if_found (At g) f = f g
-if_found Nothing f = Refuse no_room
+abbrev pub if_found : Option ℕ → (ℕ → Plan) → Plan
+if_found (Some g) f = f g
+if_found Prelude.None f = Refuse no_room
 
 -- a new run of class b, by the page bits
 unfoldable pub plan_class : ℕ → List ℕ → ℕ → Plan

@@ -2,13 +2,12 @@
 #![tactic(auto)]
 
 ghost use Rattle.std.specs.Prelude.{◌≡◌, ◌+◌, ◌-◌, ◌*◌, ◌<◌, ◌≤◌, length};
-ghost use Rattle.classes.specs.Classes.{size, pages};
 ghost use Rattle.records.specs.declared.Kind.TheVariants.{Class};
 ghost use Rattle.records.specs.Kinds.{slots_of};
 ghost use Rattle.records.specs.Lent.{lent, before, after};
 ghost use Rattle.records.specs.Calls.{admit_of, leaves};
 ghost use Rattle.reserve.specs.Reserve.{lowest_free, has_slot, slot_page, plan_slot, plan_class, plan_run, pages_for, plan_large, plan, is_full, ready, perform, slot_given, answer, serve, refused};
-ghost use Rattle.reserve.specs.Plans.{PlanOk, PlanLow, PlanSize, plan_pages};
+ghost use Rattle.reserve.specs.Plans.{PlanOk, PlanLow, plan_pages};
 
 use refusals::{NO_ROOM, TOO_BIG};
 
@@ -73,10 +72,7 @@ fn has_slot(
     requires count { n ≡ slots_of (Class b) }
     ensures { result ≡ has_slot (before bits.now words.now slots.now) b g }
 {
-    if !records::is_run_of(c, bits, words, slots, g, b) {
-        return false;
-    }
-    lowest_free(slots, g, b, n) < n
+    records::is_run_of(c, bits, words, slots, g, b) && lowest_free(slots, g, b, n) < n
 }
 
 // The first page at which a run of class b with a free slot starts; behind the last page where there is none.
@@ -87,12 +83,10 @@ fn slot_page(c: u64, bits: &[u64], words: &[u32], slots: &[u64], b: usize, n: us
     ensures { result ≡ slot_page (before bits.now words.now slots.now) b 0 (512 * c) }
 {
     let end = 512 * (c as usize);
-    let mut g = 0;
-    while g < end {
+    for g in 0..end {
         if has_slot(c, bits, words, slots, g, b, n) {
             return g;
         }
-        g += 1;
     }
     end
 }
@@ -105,14 +99,9 @@ fn plan_class(c: u64, bits: &[u64], b: usize) -> Plan
     ensures { result ≡ plan_class c bits.now b }
 {
     let row = classes::class_row(b);
-    let n = widths::wide16(row.pages);
-    match gaps::find_pages(c as usize, bits, n) {
-        gaps::Found::At(g) => {
-            return Plan::NewClass(g, b);
-        }
-        gaps::Found::Nothing => {
-            return Plan::Refuse(NO_ROOM);
-        }
+    match gaps::find_pages(c as usize, bits, usize::from(row.pages)) {
+        Some(g) => Plan::NewClass(g, b),
+        None => Plan::Refuse(NO_ROOM),
     }
 }
 
@@ -133,10 +122,11 @@ fn plan_slot(
     ensures { result ≡ plan_slot c (before bits.now words.now slots.now) b }
 {
     if g < 512 * (c as usize) {
-        let s = lowest_free(slots, g, b, n);
-        return Plan::TakeSlot(g, b, s);
+        let free = lowest_free(slots, g, b, n);
+        Plan::TakeSlot(g, b, free)
+    } else {
+        plan_class(c, bits, b)
     }
-    plan_class(c, bits, b)
 }
 
 // A large run of n pages.
@@ -146,14 +136,9 @@ fn plan_run(c: u64, bits: &[u64], n: usize) -> Plan
     requires some { 1 ≤ n }
     ensures { result ≡ plan_run c bits.now n }
 {
-    let k = n - 1;
     match gaps::find_pages(c as usize, bits, n) {
-        gaps::Found::At(g) => {
-            return Plan::NewLarge(g, k);
-        }
-        gaps::Found::Nothing => {
-            return Plan::Refuse(NO_ROOM);
-        }
+        Some(g) => Plan::NewLarge(g, n - 1),
+        None => Plan::Refuse(NO_ROOM),
     }
 }
 
@@ -186,7 +171,7 @@ fn plan_for(c: u64, bits: &[u64], words: &[u32], slots: &[u64], n: u64) -> Plan
     if n <= 3072 {
         let b = classes::class_of(n as usize);
         let row = classes::class_row(b);
-        let k = widths::wide16(row.slots);
+        let k = usize::from(row.slots);
         let g = slot_page(c, bits, words, slots, b, k);
         return plan_slot(c, bits, words, slots, b, k, g);
     }
@@ -198,12 +183,8 @@ pub fn is_full(x: Plan) -> bool
     ensures { result ≡ is_full x }
 {
     match x {
-        Plan::Refuse(r) => {
-            return r == NO_ROOM;
-        }
-        _ => {
-            return false;
-        }
+        Plan::Refuse(r) => r == NO_ROOM,
+        _ => false,
     }
 }
 
@@ -253,22 +234,13 @@ pub fn perform_plan(c: u64, bits: &mut [u64], words: &mut [u32], slots: &mut [u6
     ensures { after bits.new words.new slots.new ≡ perform (before bits.old words.old slots.old) x }
 {
     match x {
-        Plan::Refuse(r) => {
-            return;
-        }
-        Plan::TakeSlot(g, b, s) => {
-            blocks::put_slot(bits, words, slots, g, s, true);
-            return;
-        }
+        Plan::Refuse(_) => {}
+        Plan::TakeSlot(g, _, s) => blocks::put_slot(bits, words, slots, g, s, true),
         Plan::NewClass(g, b) => {
             blocks::put_class(bits, words, slots, g, b);
             blocks::put_slot(bits, words, slots, g, 0, true);
-            return;
         }
-        Plan::NewLarge(g, k) => {
-            blocks::put_large(bits, words, slots, g, k);
-            return;
-        }
+        Plan::NewLarge(g, k) => blocks::put_large(bits, words, slots, g, k),
     }
 }
 
@@ -284,17 +256,19 @@ pub fn refused(r: u64) -> Reserved
     }
 }
 
-// Slot s of the run of class b at page g, of this size.
-fn slot_given(g: usize, b: usize, s: usize, bytes: u64) -> Reserved
-    requires { ((g < 8192) × (b < 30) × (s < 512)) × (bytes ≡ size b) }
+// Slot s of the run of class b at page g.
+fn slot_given(g: usize, b: usize, s: usize) -> Reserved
+    requires { (g < 8192) × (b < 30) × (s < 512) }
     ensures { result ≡ slot_given g b s }
 {
-    let page = widths::wide64(g);
-    let number = widths::wide64(s);
+    let row = classes::class_row(b);
+    let bytes = u64::from(row.size);
+    let page = g as u64;
+    let number = s as u64;
     let slot = SlotAt {
-        class: widths::wide64(b),
+        class: b as u64,
         first: page % 512,
-        number: number,
+        number,
     };
     Reserved {
         refusal: 0,
@@ -304,53 +278,23 @@ fn slot_given(g: usize, b: usize, s: usize, bytes: u64) -> Reserved
     }
 }
 
-// The size of the slot that a plan is for; 0 where it is for none.
-fn plan_size(x: Plan) -> u64
+// What a plan answers.
+fn answer_of(x: Plan) -> Reserved
     requires { PlanLow x }
-    ensures { PlanSize x result }
-{
-    match x {
-        Plan::Refuse(r) => {
-            return 0;
-        }
-        Plan::TakeSlot(g, b, s) => {
-            let row = classes::class_row(b);
-            return widths::wide64(widths::wide16(row.size));
-        }
-        Plan::NewClass(g, b) => {
-            let row = classes::class_row(b);
-            return widths::wide64(widths::wide16(row.size));
-        }
-        Plan::NewLarge(g, k) => {
-            return 0;
-        }
-    }
-}
-
-// What a plan answers, with the size of its slot.
-fn answer_of(x: Plan, bytes: u64) -> Reserved
-    requires { PlanLow x × PlanSize x bytes }
     ensures { result ≡ answer x }
 {
     match x {
-        Plan::Refuse(r) => {
-            return refused(r);
-        }
-        Plan::TakeSlot(g, b, s) => {
-            return slot_given(g, b, s, bytes);
-        }
-        Plan::NewClass(g, b) => {
-            return slot_given(g, b, 0, bytes);
-        }
+        Plan::Refuse(r) => refused(r),
+        Plan::TakeSlot(g, b, s) => slot_given(g, b, s),
+        Plan::NewClass(g, b) => slot_given(g, b, 0),
         Plan::NewLarge(g, k) => {
-            let pages = widths::wide64(k + 1);
-            let first = widths::wide64(g);
-            return Reserved {
+            let pages = k as u64 + 1;
+            Reserved {
                 refusal: 0,
-                place: 4096 * first,
+                place: 4096 * g as u64,
                 size: 4096 * pages,
                 kind: Given::Run(pages),
-            };
+            }
         }
     }
 }
@@ -369,6 +313,5 @@ pub fn reserve_sound(
     let x = plan_for(c, bits, words, slots, n);
     let y = make_room(c, bits, words, slots, n, x);
     perform_plan(c, bits, words, slots, y);
-    let bytes = plan_size(y);
-    answer_of(y, bytes)
+    answer_of(y)
 }

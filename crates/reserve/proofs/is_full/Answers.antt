@@ -1,6 +1,6 @@
 -- `reserve::is_full` meets its contract. Assumes nothing.
-use Rattle.reserve.proofs.AnswerForms.{full_as, others_roomy}
 use mathlib.Core.Path.{sym}
+use Rattle.reserve.proofs.AnswerForms.{full_as, others_roomy}
 use Rattle.reserve.proofs.is_full.Goals as goal
 
 pub returns-in-Refuse : goal.returns-in-Refuse

@@ -2,8 +2,8 @@
 use Rattle.reserve.proofs.PlanLaws.{run_at, run_none}
 use Rattle.reserve.proofs.plan_run.Goals as goal
 
-pub returns-in-At : goal.returns-in-At
-returns-in-At c = run_at _ _ _ _ c.find_pages.ensures _ c.in-At.is
+pub returns-in-Some : goal.returns-in-Some
+returns-in-Some c = run_at _ _ _ _ c.find_pages.ensures _ c.in-Some.is
 
-pub returns-in-Nothing : goal.returns-in-Nothing
-returns-in-Nothing c = run_none _ _ _ _ c.find_pages.ensures c.in-Nothing.is
+pub returns-in-None : goal.returns-in-None
+returns-in-None c = run_none _ _ _ _ c.find_pages.ensures c.in-None.is

@@ -11,19 +11,12 @@ perform_plan-requires c =
     let h = admit_good _ _ start.requires in let ok = ready_admit _ _ h _ _ left in
     (ok, plan_good _ _ _ _ (ready_plan _ _ h _ _ left planned) ok)
 
-pub plan_size-bytes-requires : goal.plan_size-bytes-requires
-plan_size-bytes-requires c =
-    let left = c.make_room-y.ensures.left in let planned = c.make_room-y.ensures.plan in
-    let start = c in
-    let h = admit_good _ _ start.requires in
-    plan_low _ _ _ _ (ready_plan _ _ h _ _ left planned) (ready_admit _ _ h _ _ left)
-
 pub answer_of-requires : goal.answer_of-requires
 answer_of-requires c =
     let left = c.make_room-y.ensures.left in let planned = c.make_room-y.ensures.plan in
     let start = c in
     let h = admit_good _ _ start.requires in
-    (plan_low _ _ _ _ (ready_plan _ _ h _ _ left planned) (ready_admit _ _ h _ _ left), c.plan_size-bytes.ensures)
+    plan_low _ _ _ _ (ready_plan _ _ h _ _ left planned) (ready_admit _ _ h _ _ left)
 
 pub returns : goal.returns
 returns c =

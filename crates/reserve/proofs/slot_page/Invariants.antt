@@ -1,12 +1,9 @@
 -- `reserve::slot_page` meets its contract. Assumes nothing.
 use mathlib.Core.Path.{◌≡◌}
-use Prim.Native.Nat.{◌*◌, ◌-◌, ◌≤◌}
+use Prim.Native.Nat.{◌*◌}
 use Rattle.records.specs.Pool.{pool}
 use Rattle.reserve.proofs.PlanLaws.{Passed}
 use Rattle.reserve.proofs.slot_page.Given as goal
 
 abbrev pub invariant-loop-g : goal.invariant-loop-g
-invariant-loop-g l = (l.g ≤ l.end) × (l.end ≡ 512 * l.c) × (Passed (pool l.bits l.words l.slots) l.b (512 * l.c) l.g) × (l.end ≤ 8192)
-
-abbrev pub decreases-loop-g : goal.decreases-loop-g
-decreases-loop-g l = l.end - l.g
+invariant-loop-g l = (l.end ≡ 512 * l.c) × Passed (pool l.bits l.words l.slots) l.b (512 * l.c) l.g
