@@ -4,11 +4,13 @@
 ghost use Rattle.std.specs.Prelude.{◌≡◌, ◌+◌, ◌-◌, ◌*◌, ◌<◌, ◌≤◌, length};
 ghost use Rattle.records.specs.declared.Kind.TheVariants.{Class};
 ghost use Rattle.records.specs.Kinds.{slots_of};
+ghost use Rattle.records.specs.Read.{pool_of};
 ghost use Rattle.records.specs.Lent.{lent, before, after};
 ghost use Rattle.records.specs.Calls.{admit_of, leaves};
 ghost use Rattle.reserve.specs.Reserve.{lowest_free, has_slot, slot_page, plan_slot, plan_class, plan_run, pages_for, plan_large, plan, is_full, ready, perform, slot_given, answer, serve, refused};
 ghost use Rattle.reserve.specs.Plans.{PlanOk, PlanLow, plan_pages};
 
+use records::Records;
 use refusals::{NO_ROOM, TOO_BIG};
 
 // What a reserve will do: refuse with a number; take slot s of the run of class b at page g; start a run of class b at page g; start a
@@ -57,34 +59,24 @@ fn lowest_free(slots: &[u64], g: usize, b: usize, n: usize) -> usize
 }
 
 // Whether a run of class b with a free slot starts at page g; such runs have n slots.
-fn has_slot(
-    c: u64,
-    bits: &[u64],
-    words: &[u32],
-    slots: &[u64],
-    g: usize,
-    b: usize,
-    n: usize,
-) -> bool
-    requires sound { admit_of c (lent bits.now words.now slots.now) ≡ 0 }
-    requires inside { g < 512 * c }
+fn has_slot(pool: &Records, g: usize, b: usize, n: usize) -> bool
+    requires inside { g < 512 * pool.now.chunks }
     requires class { b < 30 }
     requires count { n ≡ slots_of (Class b) }
-    ensures { result ≡ has_slot (before bits.now words.now slots.now) b g }
+    ensures { result ≡ has_slot (pool_of pool.now) b g }
 {
-    records::is_run_of(c, bits, words, slots, g, b) && lowest_free(slots, g, b, n) < n
+    pool.is_run_of(g, b) && lowest_free(pool.slots, g, b, n) < n
 }
 
 // The first page at which a run of class b with a free slot starts; behind the last page where there is none.
-fn slot_page(c: u64, bits: &[u64], words: &[u32], slots: &[u64], b: usize, n: usize) -> usize
-    requires sound { admit_of c (lent bits.now words.now slots.now) ≡ 0 }
+fn slot_page(pool: &Records, b: usize, n: usize) -> usize
     requires class { b < 30 }
     requires count { n ≡ slots_of (Class b) }
-    ensures { result ≡ slot_page (before bits.now words.now slots.now) b 0 (512 * c) }
+    ensures { result ≡ slot_page (pool_of pool.now) b 0 (512 * pool.now.chunks) }
 {
-    let end = 512 * (c as usize);
+    let end = 512 * (pool.chunks as usize);
     for g in 0..end {
-        if has_slot(c, bits, words, slots, g, b, n) {
+        if has_slot(pool, g, b, n) {
             return g;
         }
     }
@@ -106,26 +98,17 @@ fn plan_class(c: u64, bits: &[u64], b: usize) -> Plan
 }
 
 // A slot of class b: the lowest free one of the run at page g, of n slots; or, where g is behind the last page, one of a new run.
-fn plan_slot(
-    c: u64,
-    bits: &[u64],
-    words: &[u32],
-    slots: &[u64],
-    b: usize,
-    n: usize,
-    g: usize,
-) -> Plan
-    requires sound { admit_of c (lent bits.now words.now slots.now) ≡ 0 }
+fn plan_slot(pool: &Records, b: usize, n: usize, g: usize) -> Plan
     requires class { b < 30 }
     requires count { n ≡ slots_of (Class b) }
-    requires first { g ≡ slot_page (lent bits.now words.now slots.now) b 0 (512 * c) }
-    ensures { result ≡ plan_slot c (before bits.now words.now slots.now) b }
+    requires first { g ≡ slot_page (pool_of pool.now) b 0 (512 * pool.now.chunks) }
+    ensures { result ≡ plan_slot pool.now.chunks (pool_of pool.now) b }
 {
-    if g < 512 * (c as usize) {
-        let free = lowest_free(slots, g, b, n);
+    if g < 512 * (pool.chunks as usize) {
+        let free = lowest_free(pool.slots, g, b, n);
         Plan::TakeSlot(g, b, free)
     } else {
-        plan_class(c, bits, b)
+        plan_class(pool.chunks, pool.bits, b)
     }
 }
 
@@ -164,18 +147,17 @@ fn plan_large(c: u64, bits: &[u64], n: u64) -> Plan
 }
 
 // What a reserve of n bytes will do, on records that are sound.
-fn plan_for(c: u64, bits: &[u64], words: &[u32], slots: &[u64], n: u64) -> Plan
-    requires { admit_of c (lent bits.now words.now slots.now) ≡ 0 }
-    ensures { result ≡ plan c (before bits.now words.now slots.now) n }
+fn plan_for(pool: &Records, n: u64) -> Plan
+    ensures { result ≡ plan pool.now.chunks (pool_of pool.now) n }
 {
     if n <= 3072 {
         let b = classes::class_of(n as usize);
         let row = classes::class_row(b);
         let k = usize::from(row.slots);
-        let g = slot_page(c, bits, words, slots, b, k);
-        return plan_slot(c, bits, words, slots, b, k, g);
+        let g = slot_page(pool, b, k);
+        return plan_slot(pool, b, k, g);
     }
-    plan_large(c, bits, n)
+    plan_large(pool.chunks, pool.bits, n)
 }
 
 // Whether a plan is to refuse 4.
@@ -218,8 +200,14 @@ pub fn make_room(
     if !is_full(x) {
         return x;
     }
+    let pool = Records {
+        chunks: c,
+        bits,
+        words,
+        slots,
+    };
     let mut spare = [0; 128];
-    sweep::swept_bits(c, bits, words, slots, &mut spare);
+    sweep::swept_bits(&pool, &mut spare);
     let y = plan_pages(c, &spare, n);
     if is_full(y) {
         return y;
@@ -310,7 +298,13 @@ pub fn reserve_sound(
     requires { admit_of c (lent bits.old words.old slots.old) ≡ 0 }
     ensures { leaves result (after bits.new words.new slots.new) ≡ serve c (before bits.old words.old slots.old) n }
 {
-    let x = plan_for(c, bits, words, slots, n);
+    let pool = Records {
+        chunks: c,
+        bits,
+        words,
+        slots,
+    };
+    let x = plan_for(&pool, n);
     let y = make_room(c, bits, words, slots, n, x);
     perform_plan(c, bits, words, slots, y);
     answer_of(y)

@@ -7,7 +7,7 @@ use Rattle.reserve.proofs.has_slot.Goals as goal
 
 pub lowest_free-requires : goal.lowest_free-requires
 lowest_free-requires c =
-    let s = (admitted _ _ c.requires.sound).shape in
+    let s = (admitted _ _ c.args.pool.now.sound).shape in
     record { low = omega arith; long = omega arith; count = c.requires.count; few = class_few c.requires.class c.requires.count }
 
 pub returns-then-is_run_of : goal.returns-then-is_run_of

@@ -6,13 +6,13 @@ use Rattle.reserve.proofs.PlanLaws.{passed_none, passed_on, passed_at, passed_al
 use Rattle.reserve.proofs.slot_page.Goals as goal
 
 pub overflow_mul-end : goal.overflow_mul-end
-overflow_mul-end c = let s = (admitted _ _ c.requires.sound).shape in omega arith
+overflow_mul-end c = let s = (admitted _ _ c.args.pool.now.sound).shape in omega arith
 
 pub loop-g-init : goal.loop-g-init
 loop-g-init c = (refl, passed_none _ _ _)
 
 pub has_slot-requires : goal.has_slot-requires
-has_slot-requires c = record { sound = c.requires.sound; inside = omega arith; class = c.requires.class; count = c.requires.count }
+has_slot-requires c = record { inside = omega arith; class = c.requires.class; count = c.requires.count }
 
 pub returns-then-has_slot : goal.returns-then-has_slot
 returns-then-has_slot c = passed_at c.loop-g.invariant.1 (omega arith) c.has_slot.ensures c.if-has_slot.true

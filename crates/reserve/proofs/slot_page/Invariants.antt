@@ -6,4 +6,4 @@ use Rattle.reserve.proofs.PlanLaws.{Passed}
 use Rattle.reserve.proofs.slot_page.Given as goal
 
 abbrev pub invariant-loop-g : goal.invariant-loop-g
-invariant-loop-g l = (l.end ≡ 512 * l.c) × Passed (pool l.bits l.words l.slots) l.b (512 * l.c) l.g
+invariant-loop-g l = (l.end ≡ 512 * l.pool.chunks) × Passed (pool l.pool.bits.now l.pool.words.now l.pool.slots.now) l.b (512 * l.pool.chunks) l.g
