@@ -197,7 +197,7 @@ pub fn class_of(size: usize) -> usize
     if size <= 64 {
         return last / 8;
     }
-    let length = 64 - usize::leading_zeros(last) as usize;
+    let length = 64 - last.leading_zeros() as usize;
     let low = length - 3;
     (last >> low) + 4 * (low - 3)
 }

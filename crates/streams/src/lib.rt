@@ -9,6 +9,7 @@ use std::io::Read;
 
 // Reads until the buffer is full, the input ends or a read fails: how many bytes stand at the start of the buffer now, which are all that
 // were taken from the input; and the error of the read that failed. On an empty buffer nothing is read.
+// The library's `read_exact` does not tell how many bytes came before an early end, so the loop goes on by what each read gives.
 pub fn read_full<R: Read>(input: &mut R, buf: &mut [u8]) -> (usize, io::Result<()>)
     ensures within { (result.0 ≤ length buf.new) × (result.0 ≡ length (take result.0 buf.new)) }
     ensures taken { Consumes (R.remaining input.old) (R.remaining input.new) (take result.0 buf.new) }

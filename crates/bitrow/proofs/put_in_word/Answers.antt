@@ -1,6 +1,6 @@
 -- `bitrow::put_in_word` meets its contract: a word changed by a mask has the bits that the definition gives it.
 -- Assumes nothing.
-use Rattle.std.proofs.Common.{◌/◌, get_or, set, ap, ◌∙◌, arith}
+use Rattle.std.proofs.Common.{◌/◌, get_or, set, ap, ◌∙◌, rules, arith}
 use Rattle.bitrow.specs.Row.{digit}
 use Rattle.bitrow.specs.Mask.{with_mask}
 use Rattle.bitrow.proofs.Words.{digit_lt}
@@ -13,4 +13,4 @@ returns c =
     let i = c.args.i in
     let v = digit c.args.v in
     ap (set ws (i / 64)) (c.put_mask.ensures ∙ ap (with_mask v (get_or ws (i / 64) 0)) c.mask-b.ensures)
-    ∙ put_word v ws i c.args.m (digit_lt c.args.v) (λ j. (c.slice_known-1.given j).fits) (omega arith) (omega arith)
+    ∙ put_word v ws i c.args.m (digit_lt c.args.v) (λ j. search rules) (omega arith) (omega arith)

@@ -1,11 +1,9 @@
 -- `classes::class_of` meets its contract: the calculation gives the smallest class.
 -- Assumes nothing.
 use mathlib.Core.Path.{refl}
-use native.Mathlib.Nat.{le_trans, lt_of_le_of_lt}
+use native.Mathlib.Nat.{le_trans}
 use native.Mathlib.Omega.{arith}
-use lib.Count.{leading_le}
-use lib.Dec.{lit<, lit≤}
-use lib.Pow.{add-lt-pow, shr_le}
+use lib.Dec.{lit≤}
 use Rattle.classes.proofs.ClassLaws.{up_to_64, above_64, long, length_left}
 use Rattle.classes.proofs.class_of.Goals as goal
 
@@ -15,20 +13,11 @@ returns-then-size-eq0 c = let h = c.requires in omega (arith, c.if-size-eq0.true
 pub returns-then-size-le64 : goal.returns-then-size-le64
 returns-then-size-le64 c = up_to_64 c.requires c.if-size-le64.true
 
-pub overflow_cast-length : goal.overflow_cast-length
-overflow_cast-length c = record { fits = lt_of_le_of_lt (leading_le _ _) (lit< tt) }
-
-pub overflow_sub-length : goal.overflow_sub-length
-overflow_sub-length c = leading_le _ _
-
 pub overflow_sub-low : goal.overflow_sub-low
 overflow_sub-low c = let h = c.requires in le_trans (lit≤ tt) (long (omega arith) (omega arith))
 
 pub overflow_sub-result : goal.overflow_sub-result
 overflow_sub-result c = let h = c.requires in length_left (omega arith) (omega arith) _ _ (lit≤ tt)
-
-pub overflow_add-result : goal.overflow_add-result
-overflow_add-result c = let h = c.requires in record { fits = add-lt-pow 63 (lt_of_le_of_lt (shr_le _ _) (omega arith)) (omega arith) }
 
 pub returns : goal.returns
 returns c = above_64 c.requires c.if-size-le64.false _ refl
