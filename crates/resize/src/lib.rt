@@ -64,15 +64,12 @@ fn fit_pages(bits: &[u64], g: usize, k: usize, j: usize) -> Change
     ensures { result ≡ fit_pages bits.now g k j }
 {
     if j == k {
-        return Change::Stay(4096 * widths::wide64(k + 1));
+        Change::Stay(4096 * (k as u64 + 1))
+    } else if j < k || can_grow(bits, g, k, j) {
+        Change::Recut(g, k, j)
+    } else {
+        Change::Move(4096 * (k as u64 + 1))
     }
-    if j < k {
-        return Change::Recut(g, k, j);
-    }
-    if can_grow(bits, g, k, j) {
-        return Change::Recut(g, k, j);
-    }
-    Change::Move(4096 * widths::wide64(k + 1))
 }
 
 // n bytes for a large run.
@@ -83,7 +80,7 @@ fn fit_run(bits: &[u64], g: usize, k: usize, n: u64) -> Change
     ensures { result ≡ fit_run bits.now g k n }
 {
     if n <= 3072 {
-        return Change::Move(4096 * widths::wide64(k + 1));
+        return Change::Move(4096 * (k as u64 + 1));
     }
     let m = reserve::pages_for(n);
     fit_pages(bits, g, k, m - 1)
@@ -95,13 +92,12 @@ fn fit_slot(b: usize, n: u64) -> Change
     ensures { result ≡ fit_slot b n }
 {
     let row = classes::class_row(b);
-    let bytes = widths::wide64(widths::wide16(row.size));
-    if n <= 3072 {
-        if classes::class_of(n as usize) == b {
-            return Change::Stay(bytes);
-        }
+    let bytes = u64::from(row.size);
+    if n <= 3072 && classes::class_of(n as usize) == b {
+        Change::Stay(bytes)
+    } else {
+        Change::Move(bytes)
     }
-    Change::Move(bytes)
 }
 
 // What becomes of what starts at a place, for n bytes.
@@ -110,21 +106,17 @@ fn change_of(bits: &[u64], x: release::Spot, n: u64) -> Change
     ensures { result ≡ change bits.now x n }
 {
     match x {
-        release::Spot::Nowhere(r) => {
-            return Change::Refuse(r);
-        }
-        release::Spot::Run(g, k) => {
-            if 2093056 < n {
-                return Change::Refuse(TOO_BIG);
-            }
-            return fit_run(bits, g, k, n);
-        }
-        release::Spot::Slot(g, b, s) => {
-            if 2093056 < n {
-                return Change::Refuse(TOO_BIG);
-            }
-            return fit_slot(b, n);
-        }
+        release::Spot::Nowhere(r) => Change::Refuse(r),
+        release::Spot::Run(g, k) => if 2093056 < n {
+            Change::Refuse(TOO_BIG)
+        } else {
+            fit_run(bits, g, k, n)
+        },
+        release::Spot::Slot(_, b, _) => if 2093056 < n {
+            Change::Refuse(TOO_BIG)
+        } else {
+            fit_slot(b, n)
+        },
     }
 }
 
@@ -163,7 +155,7 @@ fn moved(r: reserve::Reserved, z: u64, n: u64) -> Resized
         place: r.place,
         size: r.size,
         how: 2,
-        copy: if z < n { z } else { n },
+        copy: z.min(n),
     }
 }
 
@@ -202,19 +194,13 @@ pub fn settle(
     ensures told { Tells c (before bits.old words.old slots.now) q n (change bits.old x n) result }
 {
     match change_of(bits, x, n) {
-        Change::Refuse(r) => {
-            return Settled::Over(refused(r));
-        }
-        Change::Stay(z) => {
-            return Settled::Over(kept(q, z));
-        }
+        Change::Refuse(r) => Settled::Over(refused(r)),
+        Change::Stay(z) => Settled::Over(kept(q, z)),
         Change::Recut(g, k, j) => {
             recut_run(c, bits, words, slots, g, k, j);
-            return Settled::Over(kept(q, 4096 * widths::wide64(j + 1)));
+            Settled::Over(kept(q, 4096 * (j as u64 + 1)))
         }
-        Change::Move(z) => {
-            return Settled::Moving(z);
-        }
+        Change::Move(z) => Settled::Moving(z),
     }
 }
 
@@ -253,11 +239,7 @@ pub fn resize_sound(
 {
     let x = release::spot_at(c, bits, words, slots, q);
     match settle(c, bits, words, slots, q, n, x) {
-        Settled::Over(r) => {
-            return r;
-        }
-        Settled::Moving(z) => {
-            return move_sound(c, bits, words, slots, q, n, z);
-        }
+        Settled::Over(r) => r,
+        Settled::Moving(z) => move_sound(c, bits, words, slots, q, n, z),
     }
 }

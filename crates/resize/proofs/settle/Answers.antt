@@ -1,6 +1,7 @@
 -- `resize::settle` meets its contract. Assumes nothing.
 use native.Mathlib.Omega.{arith}
 use Rattle.resize.proofs.Forms.{spot_low, recut_there, settle_refused, settle_kept, settle_recut, settle_move}
+use mathlib.Core.Path.{refl}
 use Rattle.resize.proofs.settle.Goals as goal
 
 pub change_of-requires : goal.change_of-requires
@@ -23,15 +24,15 @@ overflow_add-j c =
     let ok = c.requires.sound in let at = c.requires.spot in
     let few = (recut_there _ _ _ _ _ c.change_of.ensures ok at c.in-Recut.is).1.few in omega arith
 
-pub overflow_mul-wide64 : goal.overflow_mul-wide64
-overflow_mul-wide64 c =
+pub overflow_mul-j : goal.overflow_mul-j
+overflow_mul-j c =
     let ok = c.requires.sound in let at = c.requires.spot in
     let few = (recut_there _ _ _ _ _ c.change_of.ensures ok at c.in-Recut.is).1.few in omega arith
 
 pub returns-in-Recut : goal.returns-in-Recut
 returns-in-Recut c =
     let both = settle_recut _ _ _ _ _ c.change_of.ensures c.in-Recut.is c.recut_run.ensures
-    c.wide64.ensures c.kept-in-Recut.ensures in record { left = both.0; told = both.1 }
+    refl c.kept-in-Recut.ensures in record { left = both.0; told = both.1 }
 
 pub returns-in-Move : goal.returns-in-Move
 returns-in-Move c =
