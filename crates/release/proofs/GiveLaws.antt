@@ -134,9 +134,6 @@ found c p q e f = subst (There c p q) (sym e ∙ f) (there c p q)
 pub few_slots : {c : ℕ} {p : Pool} {g b s : ℕ} → IsSlot c p g b s true → s < 512
 few_slots {b = b} r = let a = (any_row b).slots_most in let h = r.slot in omega arith
 
-pub size_as : {x y w : Spot} {z : Sized} → x ≡ y → x ≡ w → z ≡ size_at y → z ≡ size_at w
-size_as e f g = g ∙ ap size_at (sym e ∙ f)
-
 -- ---- what the place lies in, as it was matched
 
 module _ (c : ℕ) (p : Pool) (q : ℕ) {x : Option Area} {y : Area} (e : x ≡ Some y) where

@@ -3,7 +3,7 @@ use mathlib.Core.Path.{◌≡◌, refl, sym, ap, ap₂, ◌∙◌, subst, subst�
 use mathlib.Core.Logic.{◌≢◌}
 use mathlib.Core.Bool.{Bool, true, false, cond, ◌&&◌}
 use mathlib.Core.List.{List}
-use Prim.Native.Nat.{ℕ, zero, suc, ◌+◌, ◌-◌, ◌*◌, ◌%◌, ◌≤◌, ◌<◌, min}
+use Prim.Native.Nat.{ℕ, zero, suc, ◌+◌, ◌-◌, ◌*◌, ◌%◌, ◌≤◌, ◌<◌}
 use native.Mathlib.Omega.{arith}
 use lib.Dec.{eqb}
 use lib.ListN.{length}
@@ -146,11 +146,6 @@ spot_low c p ok q {x} e = go x (subst (There c p q) (sym e) (there c p q))
         let s = (admitted c p ok).shape in let i = r.inside in
         (record { low = omega arith; whole = omega arith }, large_inside c p (admit_good c p ok) g k r)
     go (Slot g b s) (r, at) = class_at_low p g b r.kind
-
--- ---- a moved block
-
-pub moved_as : (r : Reserved) (z n : ℕ) {k : ℕ} → k ≡ min z n → record { refusal = 0; place = r.place; size = r.size; how = 2; copy = k } ≡ moved r z n
-moved_as r z n e = ap (λ (k : ℕ). record { refusal = 0; place = r.place; size = r.size; how = 2; copy = k }) e
 
 -- ---- a run that is cut anew
 

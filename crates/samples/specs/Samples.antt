@@ -1,9 +1,8 @@
 -- The samples of classes and gaps (RULES 12.1), as rows under one claim.
 -- Assumes nothing.
-use Rattle.std.specs.Prelude.{◌≡◌, List, [], ◌∷◌, ℕ}
+use Rattle.std.specs.Prelude.{◌≡◌, List, [], ◌∷◌, ℕ, Some, None}
 use Rattle.classes.specs.Classes.{class_for}
 use Rattle.gaps.specs.declared.Gap.{Gap}
-use Rattle.gaps.specs.declared.Found.TheVariants.{At, Nothing}
 use Rattle.gaps.specs.Gaps.{gap, gaps_of, find_pages}
 
 -- the page bits of one chunk with the gaps 10 to 13, 40 to 42, 90 to 92 and 200 to 511 only
@@ -41,8 +40,8 @@ samples =
 unfoldable pub Says : Sample → Type 0
 Says (class n b) = class_for n ≡ b
 Says (gaps gs) = gaps_of page_bits 0 ≡ gs
-Says (starts n g) = find_pages 1 page_bits n ≡ At g
-Says (no_gap n) = find_pages 1 page_bits n ≡ Nothing
+Says (starts n g) = find_pages 1 page_bits n ≡ Some g
+Says (no_gap n) = find_pages 1 page_bits n ≡ None
 
 -- each row holds
 pub data Each : List Sample → Type 0 where
