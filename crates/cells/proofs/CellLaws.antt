@@ -1,5 +1,5 @@
 -- What each page shows. Assumes nothing.
-use mathlib.Core.Path.{◌≡◌, sym, ap, ap₂, ◌∙◌}
+use mathlib.Core.Path.{◌≡◌, refl, sym, ap, ap₂, ◌∙◌}
 use mathlib.Core.List.{List}
 use Prim.Native.Nat.{ℕ, suc, ◌+◌, ◌*◌, ◌/◌, ◌≤◌, ◌<◌}
 use Prim.Native.Char.{code}
@@ -20,9 +20,9 @@ use Rattle.cells.specs.Cells.{cell, tenths, mark_of, run_cell, goes_on, cell_of,
 
 -- ---- tenths
 
-pub tenths_most : (n s t : ℕ) → n ≤ s → 0 < s → t ≡ 10 * n / s → (t ≡ tenths n s) × (t ≤ 10)
+pub tenths_most : (n s : ℕ) → n ≤ s → 0 < s → (10 * n / s ≡ tenths n s) × (10 * n / s ≤ 10)
 unfolding tenths
-tenths_most n s t l h e = (e, rw e (div-le_of_le-mul s (omega (arith, l))))
+tenths_most n s l h = (refl, div-le_of_le-mul s (omega (arith, l)))
 
 pub mark_digit : (t : ℕ) → t < 10 → 48 + t ≡ mark_of t
 unfolding mark_of
@@ -76,13 +76,12 @@ abbrev pub Shows : Pool → Cell → ℕ → Cell → Type 0
 Shows p last g s = Drawn s (cell_at p last g)
 
 -- in the arm of a match: the page is of the kind j
-pub shown : (p : Pool) (last : Cell) (g : ℕ) (j : Kind) {k : Kind} {s : Cell} → k ≡ kind_at p g → k ≡ j → Drawn s (cell_of p g last j)
-    → Shows p last g s
+pub shown : (p : Pool) (last : Cell) (g : ℕ) (j : Kind) {s : Cell} → j ≡ kind_at p g → Drawn s (cell_of p g last j) → Shows p last g s
 unfolding cell_at
-shown p last g j e f h = (h.0 ∙ ap (cell_of p g last) (sym f ∙ e), h.1, h.2)
+shown p last g j e h = (h.0 ∙ ap (cell_of p g last) e, h.1, h.2)
 
-pub large_shown : {s : Cell} (n k : ℕ) → n ≡ k + 1 → Drawn s (cell (code "L") (code "l") 0 0 n) → Drawn s (cell (code "L") (code "l") 0 0 (suc k))
-large_shown n k e h = let y : n ≡ suc k = omega arith in (h.0 ∙ ap (cell (code "L") (code "l") 0 0) y, h.1, h.2)
+pub large_shown : {s : Cell} (k : ℕ) → Drawn s (cell (code "L") (code "l") 0 0 (k + 1)) → Drawn s (cell (code "L") (code "l") 0 0 (suc k))
+large_shown k h = let y : k + 1 ≡ suc k = omega arith in (h.0 ∙ ap (cell (code "L") (code "l") 0 0) y, h.1, h.2)
 
 pub behind_shown : (last : Cell) {s : Cell} → last.level ≤ 10 → s ≡ goes_on last → Drawn s (goes_on last)
 unfolding goes_on

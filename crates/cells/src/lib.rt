@@ -10,7 +10,7 @@ ghost use Rattle.cells.specs.Cells.{cell, tenths, mark_of, run_cell, goes_on, ce
 ghost use Rattle.cells.specs.Means.{CellsMean};
 
 // What a page shows: its character, the letter of its fill, 1 where it goes on with the cell before, how full it is in tenths, its
-// label, 0 for none.
+// label, 0 for none. The 1 and the label are numbers of the drawing: the one moves and widens a box, the other is written where it is not 0.
 #[derive(Clone, Copy)]
 pub struct Cell {
     pub mark: u8,
@@ -27,17 +27,14 @@ fn level_of(n: usize, s: usize) -> u64
     requires few { s ≤ 512 }
     ensures { (result ≡ tenths n s) × (result ≤ 10) }
 {
-    widths::wide64(10 * n / s)
+    (10 * n / s) as u64
 }
 
 // The tenths as one character.
 fn level_mark(t: u64) -> u8
     ensures { result ≡ mark_of t }
 {
-    if t < 10 {
-        return 48 + t as u8;
-    }
-    b'X'
+    if t < 10 { b'0' + t as u8 } else { b'X' }
 }
 
 // A page that neither goes on with the cell before nor has slots.
@@ -45,11 +42,11 @@ fn plain_cell(mark: u8, fill: u8, label: u64) -> Cell
     ensures { (result ≡ cell mark fill 0 0 label) × (result.joined ≤ 1) × (result.level ≤ 10) }
 {
     Cell {
-        mark: mark,
-        fill: fill,
+        mark,
+        fill,
         joined: 0,
         level: 0,
-        label: label,
+        label,
     }
 }
 
@@ -62,7 +59,7 @@ fn run_cell(taken: &[u64], g: usize, b: usize) -> Cell
         × (result.joined ≤ 1) × (result.level ≤ 10) }
 {
     let row = classes::class_row(b);
-    let s = widths::wide16(row.slots);
+    let s = usize::from(row.slots);
     let n = bitrow::count_bits(taken, 512 * g, s);
     let t = level_of(n, s);
     Cell {
@@ -70,7 +67,7 @@ fn run_cell(taken: &[u64], g: usize, b: usize) -> Cell
         fill: b'c',
         joined: 0,
         level: t,
-        label: widths::wide64(widths::wide16(row.size)),
+        label: u64::from(row.size),
     }
 }
 
@@ -95,26 +92,13 @@ pub fn page_cell(c: u64, bits: &[u64], words: &[u32], slots: &[u64], g: usize, l
     ensures { (result ≡ cell_at (before bits.now words.now slots.now) last g)
         × (result.joined ≤ 1) × (result.level ≤ 10) }
 {
-    let k = records::kind_at(c, bits, words, slots, g);
-    match k {
-        records::Kind::Edge => {
-            return plain_cell(b'@', b'e', 0);
-        }
-        records::Kind::Free => {
-            return plain_cell(b'.', b'f', 0);
-        }
-        records::Kind::Damaged => {
-            return plain_cell(b'?', b'f', 0);
-        }
-        records::Kind::Large(n) => {
-            return plain_cell(b'L', b'l', widths::wide64(n + 1));
-        }
-        records::Kind::Class(b) => {
-            return run_cell(slots, g, b);
-        }
-        records::Kind::Inner(_) => {
-            return goes_on(last);
-        }
+    match records::kind_at(c, bits, words, slots, g) {
+        records::Kind::Edge => plain_cell(b'@', b'e', 0),
+        records::Kind::Free => plain_cell(b'.', b'f', 0),
+        records::Kind::Damaged => plain_cell(b'?', b'f', 0),
+        records::Kind::Large(n) => plain_cell(b'L', b'l', (n + 1) as u64),
+        records::Kind::Class(b) => run_cell(slots, g, b),
+        records::Kind::Inner(_) => goes_on(last),
     }
 }
 

@@ -36,9 +36,9 @@ module _ (c : ℕ) (p : Pool) (room : List ℕ) where
   pub listed_none : (n : ℕ) → n ≡ length (live c p) → length room / 2 < n → leaves (counted short_room 0) room ≡ list c p room
   listed_none n e h = list_short (omega arith)
 
-  pub listed_all : (n m : ℕ) (after : List ℕ) → n ≡ length (live c p) → n ≤ length room / 2 → after ≡ sets room 0 (words_for (live c p)) → m ≡ n
-      → leaves (counted 0 m) after ≡ list c p room
-  listed_all n m after e h f q = ap₂ (λ (x : ℕ) (r : List ℕ). leaves (counted 0 x) r) (q ∙ e) f ∙ list_long (omega arith)
+  pub listed_all : (n : ℕ) (after : List ℕ) → n ≡ length (live c p) → n ≤ length room / 2 → after ≡ sets room 0 (words_for (live c p))
+      → leaves (counted 0 n) after ≡ list c p room
+  listed_all n after e h f = ap₂ (λ (x : ℕ) (r : List ℕ). leaves (counted 0 x) r) e f ∙ list_long (omega arith)
 
 -- ---- behind the check
 

@@ -23,14 +23,10 @@ length_words (b ∷ l) = let h = length_words l in omega arith
 
 -- ---- one block, none
 
-pub wrote_block : (room : List ℕ) (i : ℕ) (a z place size : ℕ) → a ≡ place → z ≡ size
-    → Wrote (set (set room i a) (i + 1) z) room (i + 2) i (block place size ∷ [])
+pub wrote_block : (room : List ℕ) (i place size : ℕ) → Wrote (set (set room i place) (i + 1) size) room (i + 2) i (block place size ∷ [])
 unfolding words_for
-wrote_block room i a z place size e f =
-    record {
-      next = refl;
-      text = ap (λ (k : ℕ). set (set room i a) k z) (add-one i) ∙ ap₂ (λ (x y : ℕ). sets room i (x ∷ y ∷ [])) e f;
-    }
+wrote_block room i place size =
+    record { next = refl; text = ap (λ (k : ℕ). set (set room i place) k size) (add-one i) }
 
 pub wrote_none : (room : List ℕ) (i : ℕ) (l : List Block) → l ≡ [] → Wrote room room i i l
 unfolding words_for
@@ -53,9 +49,6 @@ pub writing_none : (room : List ℕ) (i : ℕ) (l rest : List Block) → l ≡ r
 writing_none room i l rest e = subst (Writing room i l room i) e (record { goes = refl; ends = refl; long = refl })
 
 module _ {before : List ℕ} {i : ℕ} {whole : List Block} {room : List ℕ} {k : ℕ} {rest : List Block} where
-  pub writing_as : {later : List Block} → Writing before i whole room k rest → rest ≡ later → Writing before i whole room k later
-  writing_as w e = subst (Writing before i whole room k) e w
-
   -- the next of them
   pub writing_on : {after : List ℕ} {r : ℕ} (l later : List Block) → Writing before i whole room k rest → Wrote after room r k l → rest ≡ l ++ later
       → Writing before i whole after r later

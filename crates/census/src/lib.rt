@@ -26,20 +26,21 @@ fn write_block(room: &mut [u64], i: usize, place: usize, size: usize) -> usize
     requires { i + 2 ≤ length room.old }
     ensures { Wrote room.new room.old result i (block place size ∷ []) }
 {
-    room[i] = widths::wide64(place);
-    room[i + 1] = widths::wide64(size);
+    room[i] = place as u64;
+    room[i + 1] = size as u64;
     i + 2
 }
 
-// The first taken slot from slot s on, of the n slots of the run that starts at page g; n where there is none.
-fn next_taken(slots: &[u64], g: usize, s: usize, n: usize) -> usize
+// The first taken slot from slot s on, of the n slots of the run that starts at page g.
+fn next_taken(slots: &[u64], g: usize, s: usize, n: usize) -> Option<usize>
     requires low { g < 8192 }
     requires long { 512 * g + 512 ≤ 64 * length slots.now }
     requires order { s ≤ n }
     requires few { n ≤ 512 }
     ensures { NextTaken slots.now g s n result }
 {
-    bitrow::next_bit(slots, 512 * g + s, 512 * g + n, true) - 512 * g
+    let r = bitrow::next_bit(slots, 512 * g + s, 512 * g + n, true) - 512 * g;
+    if r < n { Some(r) } else { None }
 }
 
 // Writes the blocks of the run of class b that starts at page g, from taken slot to taken slot.
@@ -51,13 +52,13 @@ fn write_slots(slots: &[u64], g: usize, b: usize, room: &mut [u64], i: usize) ->
     ensures { Wrote room.new room.old result i (slot_blocks slots.now g b 0 (slots_of (Class b))) }
 {
     let row = classes::class_row(b);
-    let size = widths::wide16(row.size);
-    let n = widths::wide16(row.slots);
+    let size = usize::from(row.size);
+    let n = usize::from(row.slots);
     let mut k = i;
-    let mut s = next_taken(slots, g, 0, n);
-    while s < n {
+    let mut from = 0;
+    while let Some(s) = next_taken(slots, g, from, n) {
         k = write_block(room, k, 4096 * g + s * size, size);
-        s = next_taken(slots, g, s + 1, n);
+        from = s + 1;
     }
     k
 }
@@ -77,17 +78,10 @@ fn write_page(
     requires room { i + 2 * length (page_blocks (lent bits.now words.now slots.now) g) ≤ length room.old }
     ensures { Wrote room.new room.old result i (page_blocks (before bits.now words.now slots.now) g) }
 {
-    let k = records::kind_at(c, bits, words, slots, g);
-    match k {
-        records::Kind::Class(b) => {
-            return write_slots(slots, g, b, room, i);
-        }
-        records::Kind::Large(n) => {
-            return write_block(room, i, 4096 * g, 4096 * (n + 1));
-        }
-        _ => {
-            return i;
-        }
+    match records::kind_at(c, bits, words, slots, g) {
+        records::Kind::Class(b) => write_slots(slots, g, b, room, i),
+        records::Kind::Large(n) => write_block(room, i, 4096 * g, 4096 * (n + 1)),
+        _ => i,
     }
 }
 
@@ -96,12 +90,9 @@ fn write_pages(c: u64, bits: &[u64], words: &[u32], slots: &[u64], room: &mut [u
     requires { (admit_of c (lent bits.now words.now slots.now) ≡ 0) × (2 * length (live c (lent bits.now words.now slots.now)) ≤ length room.old) }
     ensures { room.new ≡ sets room.old 0 (words_for (live c (before bits.now words.now slots.now))) }
 {
-    let end = 512 * (c as usize);
     let mut i = 0;
-    let mut g = 0;
-    while g < end {
+    for g in 0..512 * c as usize {
         i = write_page(c, bits, words, slots, g, room, i);
-        g += 1;
     }
 }
 
@@ -120,6 +111,6 @@ pub fn census_sound(c: u64, bits: &[u64], words: &[u32], slots: &[u64], room: &m
     write_pages(c, bits, words, slots, room);
     Counted {
         refusal: 0,
-        count: widths::wide64(n),
+        count: n as u64,
     }
 }

@@ -29,8 +29,8 @@ use Rattle.release.specs.Release.{spot, released, release_of, sized, size_of}
 use Rattle.release.proofs.GiveLaws as places
 use Rattle.release.proofs.MeanLaws as spots
 use Rattle.release.proofs.MeanLaws.{give_loses, release_give, release_by, size_by, one_size}
-use Rattle.next.specs.declared.First.{First}
-use Rattle.next.specs.declared.First.TheVariants as first
+use Rattle.std.specs.Prelude.{Option, Some, None}
+use Rattle.next.specs.declared.Found.{Found}
 use Rattle.next.specs.declared.Next.{Next}
 use Rattle.next.specs.Next.{first_from, answered, next_of}
 use Rattle.next.proofs.MeanLaws.{live_lowest, none_below, below_none, next_by}
@@ -146,18 +146,18 @@ module _ (c : ℕ) (p : Pool) (h : Good c p) (q : ℕ) where
   pub by_next : {x : Next} → Nexts c p q x → next_of c p q ≡ x
   by_next (next_block b m l low) = go (first_from q (live c p)) refl
     where
-      go : (x : First) → first_from q (live c p) ≡ x → next_of c p q ≡ answered 0 b.place b.size
-      go (first.At y z) e =
-          let (n, k, least) = live_lowest c p h q y z e in
-          let same : y ≡ b.place = omega (arith, least b m l, low (block y z) n k) in
+      go : (x : Option Found) → first_from q (live c p) ≡ x → next_of c p q ≡ answered 0 b.place b.size
+      go (Some f) e =
+          let (n, k, least) = live_lowest c p h q f e in
+          let same : f.place ≡ b.place = omega (arith, least b m l, low (block f.place f.size) n k) in
           next_by c p h q e ∙ ap₂ (answered 0) same (one_size c p h (live_is c p n) (live_is c p m) same)
-      go first.Nothing e = absurd (omega (arith, none_below q (live c p) e b m))
+      go None e = absurd (omega (arith, none_below q (live c p) e b m))
   by_next (block_nowhere f) = next_by c p h q (below_none q (live c p) f)
 
   pub next_rule : Nexts c p q (next_of c p q)
   next_rule = go (first_from q (live c p)) refl
     where
-      go : (x : First) → first_from q (live c p) ≡ x → Nexts c p q (next_of c p q)
-      go (first.At y z) e =
-          let (n, k, least) = live_lowest c p h q y z e in subst (Nexts c p q) (sym (next_by c p h q e)) (next_block (block y z) n k least)
-      go first.Nothing e = subst (Nexts c p q) (sym (next_by c p h q e)) (block_nowhere (none_below q (live c p) e))
+      go : (x : Option Found) → first_from q (live c p) ≡ x → Nexts c p q (next_of c p q)
+      go (Some f) e =
+          let (n, k, least) = live_lowest c p h q f e in subst (Nexts c p q) (sym (next_by c p h q e)) (next_block (block f.place f.size) n k least)
+      go None e = subst (Nexts c p q) (sym (next_by c p h q e)) (block_nowhere (none_below q (live c p) e))

@@ -30,8 +30,8 @@ use Rattle.resize.specs.declared.Resized.{Resized}
 use Rattle.resize.specs.Resize.{resize_of}
 use Rattle.resize.specs.Resize as resizing
 use Rattle.resize.proofs.MeanLaws.{resize_kept}
-use Rattle.next.specs.declared.First.{First}
-use Rattle.next.specs.declared.First.TheVariants.{At, Nothing}
+use Rattle.std.specs.Prelude.{Option, Some, None}
+use Rattle.next.specs.declared.Found.{Found}
 use Rattle.next.specs.declared.Next.{Next}
 use Rattle.next.specs.Next.{first_from, answered, answer_of, next_of}
 use Rattle.blocks.specs.Blocks.{live}
@@ -87,9 +87,9 @@ size_kept (spots.Nowhere n) r e = ap (λ (k : ℕ). sized k 0) e
 size_kept (spots.Run g k) r e = absurd (omega arith)
 size_kept (spots.Slot g b s) r e = absurd (omega arith)
 
-next_kept : (x : First) (r : ℕ) → (answer_of x).refusal ≡ suc r → answer_of x ≡ answered (suc r) 0 0
-next_kept (At y z) r e = absurd (omega arith)
-next_kept Nothing r e = absurd (omega arith)
+next_kept : (x : Option Found) (r : ℕ) → (answer_of x).refusal ≡ suc r → answer_of x ≡ answered (suc r) 0 0
+next_kept (Some x) r e = absurd (omega arith)
+next_kept None r e = absurd (omega arith)
 
 module _ (c : ℕ) (p : Pool) where
   fresh_refuses : Refuses (shape_of c p) (λ x. x.answer) (λ r. leaves r p) (fresh_of c p)

@@ -3,6 +3,8 @@ use mathlib.Core.Path.{◌≡◌, refl, sym, ap, ap₂, ◌∙◌}
 use mathlib.Core.Logic.{⊎_elim, by_cases}
 use mathlib.Core.List.Memᴰ
 use mathlib.Core.List.{List, [], ◌∷◌, Memᴰ}
+use Rattle.std.specs.Prelude.{Option, Some, None}
+use Rattle.std.proofs.lemmas.Option.{none-some, same_Some}
 use Prim.Native.Nat.{ℕ, ◌+◌, ◌*◌, ◌≤◌, ◌<◌}
 use native.Mathlib.Decide.{dec_le}
 use native.Mathlib.Omega.{arith}
@@ -14,27 +16,12 @@ use Rattle.blocks.specs.Blocks.{block, Block, live, Rising, stop, next}
 use Rattle.blocks.specs.Stores.{Good}
 use Rattle.blocks.proofs.ApartLaws.{live_rising}
 use Rattle.blocks.proofs.KeepLaws.{good_admit}
-use Rattle.next.specs.declared.First.{First}
-use Rattle.next.specs.declared.First.TheVariants.{At, Nothing}
-use Rattle.next.specs.Next.{first_from, answered, answer_of, next_of}
-
--- ---- what was found, taken apart
-
-abbrev is_first : First → ℕ
-is_first (At y z) = 1
-is_first Nothing = 0
-
-abbrev place_of : First → ℕ
-place_of (At y z) = y
-place_of Nothing = 0
-
-abbrev size_of : First → ℕ
-size_of (At y z) = z
-size_of Nothing = 0
+use Rattle.next.specs.declared.Found.{Found}
+use Rattle.next.specs.Next.{found, first_from, answered, answer_of, next_of}
 
 -- ---- one block of the list
 
-first_here : (q : ℕ) (b : Block) (l : List Block) → q ≤ b.place → first_from q (b ∷ l) ≡ At b.place b.size
+first_here : (q : ℕ) (b : Block) (l : List Block) → q ≤ b.place → first_from q (b ∷ l) ≡ Some (found b.place b.size)
 unfolding first_from
 first_here q b l h = cond_le q b.place _ _ h
 
@@ -42,7 +29,7 @@ first_later : (q : ℕ) (b : Block) (l : List Block) → b.place < q → first_f
 unfolding first_from
 first_later q b l h = cond_nle q b.place _ _ h
 
-first_empty : (q : ℕ) → first_from q [] ≡ Nothing
+first_empty : (q : ℕ) → first_from q [] ≡ None
 unfolding first_from
 first_empty q = refl
 
@@ -61,50 +48,50 @@ rising_low (next h z r) x m =
 abbrev pub Lowest : ℕ → List Block → ℕ → ℕ → Type 0
 Lowest q l y z = Memᴰ (block y z) l × (q ≤ y) × ((x : Block) → Memᴰ x l → q ≤ x.place → y ≤ x.place)
 
-first_lowest : (q hi y z : ℕ) (l : List Block) (lo : ℕ) → Rising lo l hi → first_from q l ≡ At y z → Lowest q l y z
-first_lowest q hi y z [] lo r e = let u : ◌≡◌ {A = ℕ} 0 1 = ap is_first (sym (first_empty q) ∙ e) in absurd (omega arith)
-first_lowest q hi y z (b ∷ l) lo r e =
-    by_cases (dec_le q b.place) here (λ h. later (omega arith) (first_lowest q hi y z l (b.place + b.size) (rising_on r)))
+first_lowest : (q hi : ℕ) (f : Found) (l : List Block) (lo : ℕ) → Rising lo l hi → first_from q l ≡ Some f → Lowest q l f.place f.size
+first_lowest q hi f [] lo r e = absurd (none-some f (sym (first_empty q) ∙ e))
+first_lowest q hi f (b ∷ l) lo r e =
+    by_cases (dec_le q b.place) here (λ h. later (omega arith) (first_lowest q hi f l (b.place + b.size) (rising_on r)))
   where
-    here : q ≤ b.place → Lowest q (b ∷ l) y z
+    here : q ≤ b.place → Lowest q (b ∷ l) f.place f.size
     here h =
-        let f = sym e ∙ first_here q b l h in
-        let u : y ≡ b.place = ap place_of f in
-        let v : z ≡ b.size = ap size_of f in (
+        let d : f ≡ found b.place b.size = same_Some _ _ (sym e ∙ first_here q b l h) in
+        let u : f.place ≡ b.place = ap (λ (x : Found). x.place) d in
+        let v : f.size ≡ b.size = ap (λ (x : Found). x.size) d in (
           Memᴰ.head (ap₂ block u v),
           omega arith,
           λ x m k. ⊎_elim (λ p. let w = ap (λ (i : Block). i.place) p in omega arith)
               (λ n. let w = rising_low (rising_on r) x n in omega arith) (Memᴰ.cases_cons m),
         )
 
-    later : b.place < q → (first_from q l ≡ At y z → Lowest q l y z) → Lowest q (b ∷ l) y z
-    later h f =
-        let (m, k, w) = f (sym (first_later q b l h) ∙ e) in (
+    later : b.place < q → (first_from q l ≡ Some f → Lowest q l f.place f.size) → Lowest q (b ∷ l) f.place f.size
+    later h i =
+        let (m, k, w) = i (sym (first_later q b l h) ∙ e) in (
           Memᴰ.tail m,
           k,
           λ x n d. ⊎_elim (λ p. let u = ap (λ (i : Block). i.place) p in absurd (omega arith)) (λ o. w x o d) (Memᴰ.cases_cons n),
         )
 
 -- none is found exactly where no block lies at or above the place
-pub none_below : (q : ℕ) (l : List Block) → first_from q l ≡ Nothing → (x : Block) → Memᴰ x l → x.place < q
+pub none_below : (q : ℕ) (l : List Block) → first_from q l ≡ None → (x : Block) → Memᴰ x l → x.place < q
 none_below q [] e x m = absurd (Memᴰ.not-nil m)
 none_below q (b ∷ l) e x m =
     by_cases (dec_le q b.place)
-    (λ h. let u : ◌≡◌ {A = ℕ} 1 0 = ap is_first (sym (first_here q b l h) ∙ e) in absurd (omega arith))
+    (λ h. absurd (none-some _ (sym e ∙ first_here q b l h)))
     (λ h. let d : b.place < q = omega arith in
     ⊎_elim (λ p. let u = ap (λ (i : Block). i.place) p in omega arith)
     (λ n. none_below q l (sym (first_later q b l d) ∙ e) x n) (Memᴰ.cases_cons m))
 
-pub below_none : (q : ℕ) (l : List Block) → ((x : Block) → Memᴰ x l → x.place < q) → first_from q l ≡ Nothing
+pub below_none : (q : ℕ) (l : List Block) → ((x : Block) → Memᴰ x l → x.place < q) → first_from q l ≡ None
 below_none q [] f = first_empty q
 below_none q (b ∷ l) f = first_later q b l (f b (Memᴰ.head refl)) ∙ below_none q l (λ x m. f x (Memᴰ.tail m))
 
 -- ---- the call on a good pool
 
-pub live_lowest : (c : ℕ) (p : Pool) → Good c p → (q y z : ℕ) → first_from q (live c p) ≡ At y z → Lowest q (live c p) y z
-live_lowest c p h q y z e = first_lowest q (2097152 * c) y z (live c p) 0 (live_rising c p h) e
+pub live_lowest : (c : ℕ) (p : Pool) → Good c p → (q : ℕ) (f : Found) → first_from q (live c p) ≡ Some f → Lowest q (live c p) f.place f.size
+live_lowest c p h q f e = first_lowest q (2097152 * c) f (live c p) 0 (live_rising c p h) e
 
-pub next_by : (c : ℕ) (p : Pool) → Good c p → (q : ℕ) {x : First} → first_from q (live c p) ≡ x → next_of c p q ≡ answer_of x
+pub next_by : (c : ℕ) (p : Pool) → Good c p → (q : ℕ) {x : Option Found} → first_from q (live c p) ≡ x → next_of c p q ≡ answer_of x
 unfolding next_of
 next_by c p h q e =
     sym (served (admit_of c p) 0 (λ r. answered r 0 0) (answer_of (first_from q (live c p))) (sym (good_admit c p h)) refl) ∙ ap answer_of e

@@ -3,6 +3,7 @@ use mathlib.Core.Path.{◌≡◌, refl, sym, ap, ◌∙◌, subst}
 use mathlib.Core.Logic.{◌≢◌, by_cases}
 use mathlib.Core.Bool.{true}
 use mathlib.Core.Option.{some-injective}
+use Rattle.std.specs.Prelude.{None}
 use mathlib.Core.List.{List, [], ◌++◌, append-nil, append_assoc}
 use Prim.Native.Nat.{ℕ, zero, suc, ◌+◌, ◌-◌, ◌*◌, ◌/◌, ◌%◌, ◌≤◌, ◌<◌}
 use native.Mathlib.Decide.{dec_lt, dec_le}
@@ -26,7 +27,6 @@ use Rattle.records.proofs.AdmitLaws.{admitted}
 use Rattle.blocks.specs.Blocks.{Block, slot_block, flat, when, live, page_blocks}
 use Rattle.blocks.proofs.FlatLaws.{flat_split}
 use Rattle.blocks.proofs.PageLaws.{kind_blocks}
-use Rattle.next.specs.declared.First.TheVariants.{Nothing}
 use Rattle.next.specs.Next.{first_from}
 use Rattle.next.specs.Walk.{head, blocks_from, rest, Ahead, Least, Started}
 use Rattle.next.proofs.ListLaws.{Skips, skip_nil, skip_flat, skip_all, Heads, head_nil, head_flat, head_all}
@@ -69,7 +69,7 @@ module _ (c : ℕ) (p : Pool) (q : ℕ) where
           (head_all q (flat (page_blocks p) (suc f) n) (head_flat q (page_blocks p) (suc f) n (λ i x y. after i (omega arith) (omega arith))))
 
   -- every page lies before the place
-  pub none_from : ((i : ℕ) → i < 512 * c → Skips q (page_blocks p i)) → Nothing ≡ first_from q (live c p)
+  pub none_from : ((i : ℕ) → i < 512 * c → Skips q (page_blocks p i)) → None ≡ first_from q (live c p)
   unfolding live head page_blocks
   none_from h = sym (skip_all q (flat (page_blocks p) 0 (512 * c)) (skip_flat q (page_blocks p) 0 (512 * c) (λ i x y. h i (omega arith))))
 
@@ -156,7 +156,7 @@ module _ (c : ℕ) (p : Pool) (ok : admit_of c p ≡ 0) (q : ℕ) where
   steps = (sound_walks c p whole).walks
 
   -- no block lies behind the pool
-  pub none_outside : 512 * c ≤ q / 4096 → Nothing ≡ first_from q (live c p)
+  pub none_outside : 512 * c ≤ q / 4096 → None ≡ first_from q (live c p)
   none_outside h =
       none_from c p q
       (λ i l. pool_below p q i (omega arith)

@@ -1,19 +1,17 @@
 -- What is left of the live blocks from a page and a slot on: what the search for the next block walks through. Assumes nothing.
-use Rattle.std.specs.Prelude.{◌≡◌, Bool, List, [], ◌∷◌, ◌++◌, ℕ, zero, suc, ◌+◌, ◌-◌, ◌*◌, ◌/◌, ◌≤◌, ◌<◌}
+use Rattle.std.specs.Prelude.{◌≡◌, Bool, List, [], ◌∷◌, ◌++◌, Option, Some, None, ℕ, zero, suc, ◌+◌, ◌-◌, ◌*◌, ◌/◌, ◌≤◌, ◌<◌}
 use Rattle.records.specs.Kinds.{begins}
-use Rattle.classes.specs.Classes.{size, slots}
+use Rattle.classes.specs.Classes.{slots}
 use Rattle.records.specs.declared.Kind.{Kind}
 use Rattle.records.specs.Pool.{Pool, kind_at, slot_at}
 use Rattle.blocks.specs.Blocks.{Block, slot_block, run_block, flat, when, page_blocks, live}
-use Rattle.next.specs.declared.First.{First}
-use Rattle.next.specs.declared.First.TheVariants.{At, Nothing}
-use Rattle.next.specs.declared.Begun.{Begun}
-use Rattle.next.specs.Next.{first_from}
+use Rattle.next.specs.declared.Found.{Found}
+use Rattle.next.specs.Next.{found, first_from}
 
 -- the first block of a list
-unfoldable pub head : List Block → First
-head [] = Nothing
-head (b ∷ l) = At b.place b.size
+unfoldable pub head : List Block → Option Found
+head [] = None
+head (b ∷ l) = Some (found b.place b.size)
 
 -- the live blocks that begin in the run that starts at page g, of a class run those from slot s on
 abbrev pub blocks_from : ℕ → ℕ → Kind → (ℕ → Bool) → List Block
@@ -38,10 +36,3 @@ pub record Started (c : ℕ) (p : Pool) (q g s : ℕ) : Type 0 where
   pub low : 512 * (q / 4096 / 512) < g
   pub high : g ≤ 512 * (q / 4096 / 512) + 512
   pub ahead : Ahead c p q g s
-
--- what starts at a page: the pages of a large run, or the slots of a class run and their size
-abbrev pub begun : ℕ → ℕ → ℕ → Begun
-begun n s z = record { pages = n; count = s; size = z }
-
-abbrev pub begun_at : Kind → Begun
-begun_at k = begins k (begun 0 0 0) (λ n. begun (suc n) 0 0) (λ b. begun 0 (slots b) (size b))

@@ -66,12 +66,12 @@ module _ {v : Bool} {c : ℕ} {p : Pool} {out₀ : List ℕ} {at : ℕ} where
       pub drawing_room : at + page_room v * (512 * c) ≤ length out₀ → i + page_room v ≤ length out
       drawing_room h = omega (arith, d.room, room_step, drawing_kept)
 
-      pub drawing_next : {s : Cell} {k j : ℕ} {out' : List ℕ} → Shows p last g s → k ≡ g → Appends out out' i j (page_of v k s)
+      pub drawing_next : {s : Cell} {j : ℕ} {out' : List ℕ} → Shows p last g s → Appends out out' i j (page_of v g s)
           → j ≤ i + page_room v → Drawing v c p out₀ at out' s j (g + 1)
-      drawing_next {s} {k} {j} {out'} (e, u, x) f w h =
+      drawing_next {s} {j} {out'} (e, u, x) w h =
           record {
             text = d.text ++ page_of v g s;
-            wrote = appends_more d.wrote (rw (← f) w);
+            wrote = appends_more d.wrote w;
             rest = append_assoc d.text (page_of v g s) (pages_from v p s (g + 1) (512 * c - (g + 1)))
                 ∙ ap (λ (t : List ℕ). d.text ++ t)
                 (sym (pages_step v p last s g (g + 1) (512 * c - g) (512 * c - (g + 1)) e (omega arith) (omega arith)))
@@ -88,12 +88,12 @@ room_whole v c h = h
 
 module _ (v : Bool) (c : ℕ) (p : Pool) {o a b d : List ℕ} {i j k : ℕ} (x : Appends o a 0 i (head_of v c))
     (y : Appends a b i j (pages_from v p no_cell 0 (512 * c))) where
-  pub draw_made : {t : Sums} {n : ℕ} → t ≡ summed c p → Appends b d j k (foot_of v c t) → n ≡ k → leaves (drawn_as 0 n) d ≡ showing v c p o
+  pub draw_made : {t : Sums} → t ≡ summed c p → Appends b d j k (foot_of v c t) → leaves (drawn_as 0 k) d ≡ showing v c p o
   unfolding showing drawing
-  draw_made {t} {n} e z f =
+  draw_made {t} e z =
       let w : Appends o d 0 k (head_of v c ++ (pages_from v p no_cell 0 (512 * c) ++ foot_of v c (summed c p))) =
       appends_more x (appends_more y (rw (← e) z)) in
-      let l : n ≡ length (head_of v c ++ (pages_from v p no_cell 0 (512 * c) ++ foot_of v c (summed c p))) = omega (arith, f, w.next) in
+      let l : k ≡ length (head_of v c ++ (pages_from v p no_cell 0 (512 * c) ++ foot_of v c (summed c p))) = omega (arith, w.next) in
       rw (← l, ← w.text)
 
 -- ---- the call

@@ -12,6 +12,8 @@ use Rattle.text.specs.Text.{filled}
 use Rattle.cells.specs.declared.Cell.{Cell}
 use Rattle.cells.specs.Cells.{no_cell, cell_at}
 use Rattle.pagemap.specs.declared.Drawn.{Drawn}
+use Rattle.pagemap.specs.declared.Form.{Form}
+use Rattle.pagemap.specs.declared.Form.TheVariants.{Text, Svg}
 
 -- ---- as text: for each chunk a line and 8 rows of 64 characters, one a page; then what they say, and the totals
 
@@ -78,6 +80,11 @@ svg_foot =
     ++ ascii "<text y=\"44\">$ live blocks, $ bytes given, $ free pages</text>\n</g>\n</svg>\n"
 
 -- ---- a drawing, as SVG or as text
+
+-- whether a drawing is made as SVG: what follows goes by that
+abbrev pub is_svg : Form → Bool
+is_svg Text = false
+is_svg Svg = true
 
 unfoldable pub head_of : Bool → ℕ → List ℕ
 head_of true c = filled svg_head ((204 * c + 74) ∷ (204 * c + 74) ∷ [])

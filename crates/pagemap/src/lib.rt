@@ -6,11 +6,18 @@ ghost use Rattle.records.specs.Lent.{lent, before};
 ghost use Rattle.records.specs.Calls.{admit_of, leaves};
 ghost use Rattle.text.specs.Text.{Appends};
 ghost use Rattle.cells.specs.Cells.{no_cell};
-ghost use Rattle.pagemap.specs.Drawing.{svg_page, head_of, page_of, foot_of, pages_from};
+ghost use Rattle.pagemap.specs.Drawing.{is_svg, svg_page, head_of, page_of, foot_of, pages_from};
 ghost use Rattle.pagemap.specs.Drawing.{head_room, page_room, foot_room, room_for, showing, drawn_of};
 
 use refusals::SHORT_ROOM;
 use text::put_filled;
+
+// What a drawing is made as.
+#[derive(Clone, Copy)]
+pub enum Form {
+    Text,
+    Svg,
+}
 
 // The answer; C reads it as it is.
 #[repr(C)]
@@ -68,56 +75,69 @@ fn put_svg_page(out: &mut [u8], at: usize, g: u64, s: cells::Cell) -> usize
 }
 
 // A page.
-fn put_page(svg: bool, out: &mut [u8], at: usize, g: u64, s: cells::Cell) -> usize
-    requires room { at + page_room svg ≤ length out.old }
+fn put_page(form: Form, out: &mut [u8], at: usize, g: u64, s: cells::Cell) -> usize
+    requires room { at + page_room (is_svg form) ≤ length out.old }
     requires low { g < 8192 }
     requires joined { s.joined ≤ 1 }
     requires level { s.level ≤ 10 }
-    ensures text { Appends out.old out.new at result (page_of svg g s) }
-    ensures room { result ≤ at + page_room svg }
+    ensures text { Appends out.old out.new at result (page_of (is_svg form) g s) }
+    ensures room { result ≤ at + page_room (is_svg form) }
 {
-    if svg {
-        return put_svg_page(out, at, g, s);
+    match form {
+        Form::Text => {
+            let first = (g % 512 == 0) as u64;
+            let last = (g % 64 == 63) as u64;
+            let mark = s.mark as u64;
+            put_filled(out, at, b"[chunk $\n]~[\n]", &[first, g / 512, mark, last])
+        }
+        Form::Svg => put_svg_page(out, at, g, s),
     }
-    let first = (g % 512 == 0) as u64;
-    let last = (g % 64 == 63) as u64;
-    let mark = s.mark as u64;
-    put_filled(out, at, b"[chunk $\n]~[\n]", &[first, g / 512, mark, last])
 }
 
 // What stands before the pages.
-fn put_head(svg: bool, out: &mut [u8], c: u64) -> usize
-    requires { (head_room svg ≤ length out.old) × (c ≤ 16) }
-    ensures text { Appends out.old out.new 0 result (head_of svg c) }
-    ensures room { result ≤ head_room svg }
+fn put_head(form: Form, out: &mut [u8], c: u64) -> usize
+    requires { (head_room (is_svg form) ≤ length out.old) × (c ≤ 16) }
+    ensures text { Appends out.old out.new 0 result (head_of (is_svg form) c) }
+    ensures room { result ≤ head_room (is_svg form) }
 {
-    if svg {
-        let h = 204 * c + 74;
-        return put_filled(
-            out,
-            0,
-            b"<svg xmlns=\"http://www.w3.org/2000/svg\" width=\"1058\" height=\"$\" viewBox=\"0 0 1058 $\">\n\
+    match form {
+        Form::Text => 0,
+        Form::Svg => {
+            let h = 204 * c + 74;
+            put_filled(
+                out,
+                0,
+                b"<svg xmlns=\"http://www.w3.org/2000/svg\" width=\"1058\" height=\"$\" viewBox=\"0 0 1058 $\">\n\
 <style>text{font:13px sans-serif}.n{font:5.5px Arial,Helvetica,sans-serif}rect{shape-rendering:crispEdges}\
 .p{fill:#fff}.e{fill:#555}.f{fill:#eee}.l{fill:#e69f00}.c{fill:#d6eaf8}.u{fill:#56b4e9}</style>\n\
 <rect class=\"p\" width=\"100%\" height=\"100%\"/>\n",
-            &[h, h],
-        );
+                &[h, h],
+            )
+        }
     }
-    0
 }
 
 // What stands behind them.
-fn put_foot(svg: bool, out: &mut [u8], at: usize, c: u64, t: totals::Sums) -> usize
-    requires { (at + foot_room svg ≤ length out.old) × (c ≤ 16) }
-    ensures text { Appends out.old out.new at result (foot_of svg c t) }
-    ensures room { result ≤ at + foot_room svg }
+fn put_foot(form: Form, out: &mut [u8], at: usize, c: u64, t: totals::Sums) -> usize
+    requires { (at + foot_room (is_svg form) ≤ length out.old) × (c ≤ 16) }
+    ensures text { Appends out.old out.new at result (foot_of (is_svg form) c t) }
+    ensures room { result ≤ at + foot_room (is_svg form) }
 {
-    if svg {
-        let y = 204 * c + 20;
-        put_filled(
+    match form {
+        Form::Text => put_filled(
             out,
             at,
-            b"<g transform=\"translate(17 $)\">\n\
+            b"@ page 0  . free  L large run  = run goes on\n\
+0-9 class run, tenths of its slots taken  X all of them\n\
+live $ bytes $ free pages $\n",
+            &[t.blocks, t.bytes, t.free],
+        ),
+        Form::Svg => {
+            let y = 204 * c + 20;
+            put_filled(
+                out,
+                at,
+                b"<g transform=\"translate(17 $)\">\n\
 <rect class=\"e\" width=\"15\" height=\"20\"/>\n<text x=\"22\" y=\"15\">page 0</text>\n\
 <rect class=\"f\" x=\"84\" width=\"15\" height=\"20\"/>\n<text x=\"106\" y=\"15\">free</text>\n\
 <rect class=\"l\" x=\"154\" width=\"47\" height=\"20\"/>\n<text class=\"n\" x=\"155\" y=\"13\">3</text>\n\
@@ -127,23 +147,15 @@ fn put_foot(svg: bool, out: &mut [u8], at: usize, c: u64, t: totals::Sums) -> us
 <rect class=\"u\" x=\"404\" y=\"6\" width=\"79\" height=\"14\"/>\n<text class=\"n\" x=\"405\" y=\"13\">320</text>\n\
 <text x=\"490\" y=\"15\">class runs with their slot size, filled as their slots are taken</text>\n\
 <text y=\"44\">$ live blocks, $ bytes given, $ free pages</text>\n</g>\n</svg>\n",
-            &[y, t.blocks, t.bytes, t.free],
-        )
-    } else {
-        put_filled(
-            out,
-            at,
-            b"@ page 0  . free  L large run  = run goes on\n\
-0-9 class run, tenths of its slots taken  X all of them\n\
-live $ bytes $ free pages $\n",
-            &[t.blocks, t.bytes, t.free],
-        )
+                &[y, t.blocks, t.bytes, t.free],
+            )
+        }
     }
 }
 
 // All pages, one after the other.
 fn put_pages(
-    svg: bool,
+    form: Form,
     c: u64,
     bits: &[u64],
     words: &[u32],
@@ -151,12 +163,11 @@ fn put_pages(
     out: &mut [u8],
     at: usize,
 ) -> usize
-    requires { (admit_of c (lent bits.now words.now slots.now) ≡ 0) × (at + page_room svg * (512 * c) ≤ length out.old) }
+    requires { (admit_of c (lent bits.now words.now slots.now) ≡ 0) × (at + page_room (is_svg form) * (512 * c) ≤ length out.old) }
     ensures text { Appends out.old out.new at result
-        (pages_from svg (before bits.now words.now slots.now) no_cell 0 (512 * c)) }
-    ensures room { result ≤ at + page_room svg * (512 * c) }
+        (pages_from (is_svg form) (before bits.now words.now slots.now) no_cell 0 (512 * c)) }
+    ensures room { result ≤ at + page_room (is_svg form) * (512 * c) }
 {
-    let n = 512 * (c as usize);
     let mut last = cells::Cell {
         mark: 0,
         fill: 0,
@@ -165,55 +176,53 @@ fn put_pages(
         label: 0,
     };
     let mut i = at;
-    let mut g = 0;
-    while g < n {
+    for g in 0..512 * c as usize {
         last = cells::page_cell(c, bits, words, slots, g, last);
-        i = put_page(svg, out, i, widths::wide64(g), last);
-        g += 1;
+        i = put_page(form, out, i, g as u64, last);
     }
     i
 }
 
 // The drawing of records that are sound, where there is room for it.
 fn draw_sound(
-    svg: bool,
+    form: Form,
     c: u64,
     bits: &[u64],
     words: &[u32],
     slots: &[u64],
     out: &mut [u8],
 ) -> Drawn
-    requires { (admit_of c (lent bits.now words.now slots.now) ≡ 0) × (room_for svg c ≤ length out.old) }
+    requires { (admit_of c (lent bits.now words.now slots.now) ≡ 0) × (room_for (is_svg form) c ≤ length out.old) }
     ensures drawn { leaves result out.new
-        ≡ showing svg c (before bits.now words.now slots.now) out.old }
+        ≡ showing (is_svg form) c (before bits.now words.now slots.now) out.old }
     ensures within { result.length ≤ length out.new }
 {
-    let i = put_head(svg, out, c);
-    let j = put_pages(svg, c, bits, words, slots, out, i);
+    let i = put_head(form, out, c);
+    let j = put_pages(form, c, bits, words, slots, out, i);
     let t = totals::totals_sound(c, bits, words, slots);
-    let k = put_foot(svg, out, j, c, t);
+    let k = put_foot(form, out, j, c, t);
     Drawn {
         refusal: 0,
-        length: widths::wide64(k),
+        length: k as u64,
     }
 }
 
 // The room that is enough for the drawing of c chunks.
-fn room_for(svg: bool, c: u64) -> usize
+fn room_for(form: Form, c: u64) -> usize
     requires { c ≤ 16 }
-    ensures { result ≡ room_for svg c }
+    ensures { result ≡ room_for (is_svg form) c }
 {
-    let n = 512 * (c as usize);
-    if svg {
-        return 1024 + (420 * n + 1024);
+    let n = 512 * c as usize;
+    match form {
+        Form::Text => 29 * n + 256,
+        Form::Svg => 1024 + (420 * n + 1024),
     }
-    29 * n + 256
 }
 
 // The drawing, behind the check of the records.
-fn draw(svg: bool, c: u64, bits: &[u64], words: &[u32], slots: &[u64], out: &mut [u8]) -> Drawn
+fn draw(form: Form, c: u64, bits: &[u64], words: &[u32], slots: &[u64], out: &mut [u8]) -> Drawn
     ensures drawn { leaves result out.new
-        ≡ drawn_of svg c (before bits.now words.now slots.now) out.old }
+        ≡ drawn_of (is_svg form) c (before bits.now words.now slots.now) out.old }
     ensures within { result.length ≤ length out.new }
 {
     let a = admit::admit(c, bits, words, slots);
@@ -223,13 +232,13 @@ fn draw(svg: bool, c: u64, bits: &[u64], words: &[u32], slots: &[u64], out: &mut
             length: 0,
         };
     }
-    if out.len() < room_for(svg, c) {
+    if out.len() < room_for(form, c) {
         return Drawn {
             refusal: SHORT_ROOM,
             length: 0,
         };
     }
-    draw_sound(svg, c, bits, words, slots, out)
+    draw_sound(form, c, bits, words, slots, out)
 }
 
 // The map of the pool as text, at the front of the lent buffer. Refusal 1 or 2, or 7 where the buffer is too short for some pool of c
@@ -239,7 +248,7 @@ pub fn draw_text(c: u64, bits: &[u64], words: &[u32], slots: &[u64], out: &mut [
         ≡ drawn_of false c (before bits.now words.now slots.now) out.old }
     ensures within { (result.length ≤ length out.new) × (result.length ≡ length (take result.length out.new)) }
 {
-    draw(false, c, bits, words, slots, out)
+    draw(Form::Text, c, bits, words, slots, out)
 }
 
 // The same as an SVG picture; the room is 215,040 bytes for each chunk, and 2,048.
@@ -248,5 +257,5 @@ pub fn draw_svg(c: u64, bits: &[u64], words: &[u32], slots: &[u64], out: &mut [u
         ≡ drawn_of true c (before bits.now words.now slots.now) out.old }
     ensures within { (result.length ≤ length out.new) × (result.length ≡ length (take result.length out.new)) }
 {
-    draw(true, c, bits, words, slots, out)
+    draw(Form::Svg, c, bits, words, slots, out)
 }

@@ -8,7 +8,6 @@ use native.Mathlib.Omega.{arith}
 use lib.Dec.{eqb}
 use lib.ListN.{length, length-append}
 use borrow.Author.Tests.{eq-eqb, ne_eqb}
-use mathlib.Core.Logic.{◌≢◌}
 use Rattle.bitrow.specs.Row.{digit, bit_at, is_set, count_bits}
 use Rattle.bitrow.proofs.Rows.{bit_at_le}
 use Rattle.bitrow.proofs.Counts.{count_le}
@@ -16,19 +15,16 @@ use Rattle.classes.specs.declared.Row.{Row}
 use Rattle.classes.specs.Classes.{row_at, size, slots}
 use Rattle.classes.proofs.ClassLaws.{any_row, size_read, slots_read}
 use Rattle.records.specs.declared.Kind.{Kind}
-use Rattle.records.specs.declared.Kind.TheVariants.{Edge, Free, Damaged, Large, Class, Inner}
-use Rattle.records.specs.Kinds.{behind, span_of}
+use Rattle.records.specs.declared.Kind.TheVariants.{Large, Class}
 use Rattle.records.specs.Pool.{Pool, kind_at, slot_at}
 use Rattle.records.specs.Calls.{admit_of}
 use Rattle.records.proofs.KindLaws.{Bare}
-use Rattle.records.proofs.RunLaws.{class_at_low, large_at_low}
-use Rattle.blocks.specs.Blocks.{Block, slot_block, flat, when, blocks_at, page_blocks, live, Rising, stop, next}
-use Rattle.blocks.proofs.PageLaws.{kind_blocks, bare_none, live_from, from_start, from_step, from_over}
+use Rattle.blocks.specs.Blocks.{Block, slot_block, flat, when, page_blocks, live, Rising, stop, next}
+use Rattle.blocks.proofs.PageLaws.{kind_blocks, bare_blocks, live_from, from_start, from_step, from_over}
 use Rattle.blocks.proofs.KeepLaws.{admit_good}
 use Rattle.blocks.proofs.ApartLaws.{live_rising}
 use Rattle.totals.specs.declared.Amount.{Amount}
 use Rattle.totals.specs.Totals.{given, amount_of}
-use Rattle.totals.specs.Rows.{class_in}
 
 abbrev pub amount : ℕ → ℕ → Amount
 amount n b = record { blocks = n; bytes = b }
@@ -83,33 +79,26 @@ module _ (ss : List ℕ) (g b : ℕ) where
 
 -- ---- the amount of a page, in the arm of a match that tells its kind
 
-module _ (ss : List ℕ) (g : ℕ) (k : Kind) where
-  abbrev taken : ℕ → Bool
-  taken i = is_set ss (512 * g + i)
-
-  pub amount_none : Bare k → amount 0 0 ≡ amount_of (blocks_at g k taken)
+module _ (p : Pool) (g : ℕ) where
+  pub page_none : {k : Kind} → k ≡ kind_at p g → Bare k → amount 0 0 ≡ amount_of (page_blocks p g)
   unfolding amount_of given
-  amount_none h = sym (ap amount_of (bare_none g taken k h))
+  page_none {k} e h = sym (ap amount_of (bare_blocks p g k e h))
 
-  pub amount_large : (n : ℕ) → k ≡ Large n → amount 1 (4096 * (n + 1)) ≡ amount_of (blocks_at g k taken)
+  pub page_large : (n : ℕ) → Large n ≡ kind_at p g → amount 1 (4096 * (n + 1)) ≡ amount_of (page_blocks p g)
   unfolding amount_of given
-  amount_large n e =
+  page_large n e =
       let r : 4096 * (n + 1) ≡ 4096 * suc n + 0 = omega arith in
-      ap (amount 1) r ∙ sym (ap (λ (j : Kind). amount_of (blocks_at g j taken)) e)
+      ap (amount 1) r ∙ ap amount_of (kind_blocks p g (Large n) (sym e))
 
-  pub amount_class : (b : ℕ) {r : Row} {s n z : ℕ} → k ≡ Class b → r ≡ row_at b → s ≡ r.slots → n ≡ count_bits ss (512 * g) s → z ≡ r.size
-      → amount n (n * z) ≡ amount_of (blocks_at g k taken)
-  unfolding amount_of
-  amount_class b {n = n} {z = z} d e f h q =
-      let count : n ≡ count_bits ss (512 * g) (slots b) = h ∙ ap (count_bits ss (512 * g)) (slots_read b e f) in
+  pub page_class : (b : ℕ) {r : Row} {s n z : ℕ} → Class b ≡ kind_at p g → r ≡ row_at b → s ≡ r.slots → n ≡ count_bits p.slots (512 * g) s → z ≡ r.size
+      → amount n (n * z) ≡ amount_of (page_blocks p g)
+  unfolding amount_of slot_at
+  page_class b {n = n} {z = z} d e f h q =
+      let count : n ≡ count_bits p.slots (512 * g) (slots b) = h ∙ ap (count_bits p.slots (512 * g)) (slots_read b e f) in
       let bytes : z ≡ size b = size_read b e q in
-      ap₂ amount (count ∙ sym (slots_length ss g b 0 (slots b) (512 * g) (omega arith)))
-      (ap₂ ◌*◌ count bytes ∙ sym (slots_given ss g b 0 (slots b) (512 * g) (omega arith)))
-      ∙ sym (ap (λ (j : Kind). amount_of (blocks_at g j taken)) d)
-
--- the row that was read for a kind is that of its class
-pub row_as : {k : Kind} {r : Row} (b : ℕ) → k ≡ Class b → r ≡ row_at (class_in k) → r ≡ row_at b
-row_as b e f = f ∙ ap (λ (j : Kind). row_at (class_in j)) e
+      ap₂ amount (count ∙ sym (slots_length p.slots g b 0 (slots b) (512 * g) (omega arith)))
+      (ap₂ ◌*◌ count bytes ∙ sym (slots_given p.slots g b 0 (slots b) (512 * g) (omega arith)))
+      ∙ ap amount_of (kind_blocks p g (Class b) (sym d))
 
 -- a run's slots are few, and so are their bytes
 pub slots_few : (b : ℕ) {r : Row} {s : ℕ} → r ≡ row_at b → s ≡ r.slots → s ≤ 512
@@ -125,36 +114,6 @@ bytes_few b {r} ss i {s} {n} {z} e f h k =
     let t = a.fit in let u = a.pages_most in
     rw big (omega arith)
 
--- a large run's pages are few
-pub large_few : {k : Kind} {n : ℕ} → k ≡ Large n → span_of k < 512 → n < 511
-large_few {k} {n} e l = let s : span_of k ≡ suc n = ap span_of e in omega arith
-
--- ---- what a page is, and the row of its class
-
--- what a match tells where it has an arm for the first pages of class runs, and one for all other kinds
-pub others_zero : (k : Kind) → ((b : ℕ) → k ≢ Class b) → 0 ≡ class_in k
-others_zero Edge h = refl
-others_zero Free h = refl
-others_zero Damaged h = refl
-others_zero (Large k) h = refl
-others_zero (Class b) h = absurd (h b refl)
-others_zero (Inner w) h = refl
-
-module _ (p : Pool) (g : ℕ) where
-  pub told_few : (k : Kind) → k ≡ kind_at p g → (class_in k < 30) × (span_of k < 512)
-  unfolding behind
-  told_few Edge e = (omega arith, omega arith)
-  told_few Free e = (omega arith, omega arith)
-  told_few Damaged e = (omega arith, omega arith)
-  told_few (Large k) e = let l = large_at_low p g k (sym e) in (omega arith, omega arith)
-  told_few (Class b) e = let h = (any_row b).pages_most in (class_at_low p g b (sym e), omega arith)
-  told_few (Inner w) e = (omega arith, omega arith)
-
-  amount_page : {k : Kind} {t : Amount} → k ≡ kind_at p g → t ≡ amount_of (blocks_at g k (λ s. is_set p.slots (512 * g + s)))
-      → t ≡ amount_of (page_blocks p g)
-  unfolding slot_at
-  amount_page {k} e f = f ∙ ap amount_of (kind_blocks p g k (sym e))
-
 -- ---- the pages one after the other
 
 -- so far n blocks of b bytes were found, and those from page g on make all
@@ -167,14 +126,12 @@ counted_start c p =
     let e = sym (from_start c p) in
     record { number = zero-add (length (live_from c p 0)) ∙ ap length e; sum = zero-add (given (live_from c p 0)) ∙ ap given e }
 
-module _ {c : ℕ} {p : Pool} {g n b : ℕ} (h : Counted c p g n b) (l : g < 512 * c) {k : Kind} (is : k ≡ kind_at p g) {t : Amount}
-    (made : t ≡ amount_of (blocks_at g k (λ s. is_set p.slots (512 * g + s)))) where
+module _ {c : ℕ} {p : Pool} {g n b : ℕ} (h : Counted c p g n b) (l : g < 512 * c) {t : Amount} (made : t ≡ amount_of (page_blocks p g)) where
   pub counted_on : Counted c p (g + 1) (n + t.blocks) (b + t.bytes)
   unfolding amount_of
   counted_on =
-      let e : t ≡ amount_of (page_blocks p g) = amount_page p g is made in
-      let x : t.blocks ≡ length (page_blocks p g) = ap (λ (y : Amount). y.blocks) e in
-      let z : t.bytes ≡ given (page_blocks p g) = ap (λ (y : Amount). y.bytes) e in
+      let x : t.blocks ≡ length (page_blocks p g) = ap (λ (y : Amount). y.blocks) made in
+      let z : t.bytes ≡ given (page_blocks p g) = ap (λ (y : Amount). y.bytes) made in
       let u = ap length (from_step c p g l) ∙ length-append (page_blocks p g) (live_from c p (g + 1)) in
       let v = ap given (from_step c p g l) ∙ given_append (page_blocks p g) (live_from c p (g + 1)) in
       let a = h.number in let d = h.sum in

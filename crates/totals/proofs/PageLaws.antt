@@ -63,13 +63,10 @@ free_read c p ok n t e f =
     let h = free_count c p (admitted c p ok).whole 0 (512 * c) (omega arith) in
     let g : t ≡ count_bits p.bits 0 (512 * c) = f ∙ ap (count_bits p.bits 0) e in omega arith
 
-pub totals_made : (c : ℕ) (p : Pool) {t : Amount} (m n k f : ℕ) → t ≡ amount_of (live c p) → m ≡ t.blocks → n ≡ t.bytes → f ≡ k → k ≡ free_pages c p
-    → totalled 0 m n f ≡ summed c p
+pub totals_made : (c : ℕ) (p : Pool) {t : Amount} {f : ℕ} → t ≡ amount_of (live c p) → f ≡ free_pages c p
+    → totalled 0 t.blocks t.bytes f ≡ summed c p
 unfolding summed amount_of
-totals_made c p m n k f e x y z w =
-    let a = x ∙ ap (λ (t : Amount). t.blocks) e in
-    let b = y ∙ ap (λ (t : Amount). t.bytes) e in
-    ap₂ (λ (u v : ℕ). totalled 0 u v f) a b ∙ ap (totalled 0 _ _) (z ∙ w)
+totals_made c p e f = ap₂ (λ (t : Amount) (k : ℕ). totalled 0 t.blocks t.bytes k) e f
 
 -- behind the check
 module _ (c : ℕ) (p : Pool) (n : ℕ) (e : n ≡ admit_of c p) where

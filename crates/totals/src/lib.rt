@@ -1,15 +1,12 @@
 // Totals: live blocks, bytes given and free pages, in one pass over the page words.
 #![tactic(auto)]
 
-ghost use Rattle.std.specs.Prelude.{◌≡◌, ◌+◌, ◌*◌, ◌<◌, ◌≤◌, length};
-ghost use Rattle.records.specs.Kinds.{span_of};
-ghost use Rattle.bitrow.specs.Row.{is_set};
-ghost use Rattle.classes.specs.Classes.{row_at};
+ghost use Rattle.std.specs.Prelude.{◌≡◌, ◌*◌, ◌<◌, length};
+ghost use Rattle.classes.specs.Classes.{rows};
 ghost use Rattle.records.specs.Lent.{lent, before};
 ghost use Rattle.records.specs.Calls.{admit_of};
-ghost use Rattle.blocks.specs.Blocks.{blocks_at, live};
+ghost use Rattle.blocks.specs.Blocks.{page_blocks, live};
 ghost use Rattle.totals.specs.Totals.{amount_of, summed};
-ghost use Rattle.totals.specs.Rows.{class_in};
 
 // Some live blocks: how many, and the sum of the sizes given.
 #[derive(Clone, Copy)]
@@ -28,48 +25,37 @@ pub struct Sums {
     pub free: u64,
 }
 
-// The class whose row a page's blocks are counted by; class 0 where no class run starts at the page.
-fn class_in(k: records::Kind) -> usize
-    ensures { result ≡ class_in k }
+// The live blocks that begin in the run that starts at page g, on records that are sound; table has the rows of all classes.
+fn page_amount(
+    c: u64,
+    bits: &[u64],
+    words: &[u32],
+    slots: &[u64],
+    table: &[classes::Row; 30],
+    g: usize,
+) -> Amount
+    requires sound { admit_of c (lent bits.now words.now slots.now) ≡ 0 }
+    requires inside { g < 512 * c }
+    requires table { table.now ≡ rows }
+    ensures { result ≡ amount_of (page_blocks (before bits.now words.now slots.now) g) }
 {
-    match k {
+    match records::kind_at(c, bits, words, slots, g) {
         records::Kind::Class(b) => {
-            return b;
-        }
-        _ => {
-            return 0;
-        }
-    }
-}
-
-// The live blocks that begin in the run that starts at page g, which is of kind k; row is that of its class, where it is a class run.
-fn page_amount(slots: &[u64], g: usize, k: records::Kind, row: classes::Row) -> Amount
-    requires long { 512 * g + 512 ≤ 64 * length slots.now }
-    requires low { g < 8192 }
-    requires span { span_of k < 512 }
-    requires row { row ≡ row_at (class_in k) }
-    ensures { result ≡ amount_of (blocks_at g k (λ s. is_set slots.now (512 * g + s))) }
-{
-    match k {
-        records::Kind::Class(_) => {
-            let n = bitrow::count_bits(slots, 512 * g, widths::wide16(row.slots));
-            return Amount {
+            let row = table[b];
+            let n = bitrow::count_bits(slots, 512 * g, usize::from(row.slots));
+            Amount {
                 blocks: n,
-                bytes: n * widths::wide16(row.size),
-            };
+                bytes: n * usize::from(row.size),
+            }
         }
-        records::Kind::Large(n) => {
-            return Amount {
-                blocks: 1,
-                bytes: 4096 * (n + 1),
-            };
-        }
-        _ => {
-            return Amount {
-                blocks: 0,
-                bytes: 0,
-            };
-        }
+        records::Kind::Large(n) => Amount {
+            blocks: 1,
+            bytes: 4096 * (n + 1),
+        },
+        _ => Amount {
+            blocks: 0,
+            bytes: 0,
+        },
     }
 }
 
@@ -79,22 +65,14 @@ fn live_amount(c: u64, bits: &[u64], words: &[u32], slots: &[u64]) -> Amount
     ensures { result ≡ amount_of (live c (before bits.now words.now slots.now)) }
 {
     let table = classes::class_rows();
-    let n = 512 * (c as usize);
     let mut blocks = 0;
     let mut bytes = 0;
-    let mut g = 0;
-    while g < n {
-        let k = records::kind_at(c, bits, words, slots, g);
-        let row = table[class_in(k)];
-        let t = page_amount(slots, g, k, row);
-        blocks = blocks + t.blocks;
-        bytes = bytes + t.bytes;
-        g += 1;
+    for g in 0..512 * c as usize {
+        let t = page_amount(c, bits, words, slots, &table, g);
+        blocks += t.blocks;
+        bytes += t.bytes;
     }
-    Amount {
-        blocks: blocks,
-        bytes: bytes,
-    }
+    Amount { blocks, bytes }
 }
 
 // The number of live blocks, on records that are sound.
@@ -102,8 +80,7 @@ pub fn live_count(c: u64, bits: &[u64], words: &[u32], slots: &[u64]) -> usize
     requires { admit_of c (lent bits.now words.now slots.now) ≡ 0 }
     ensures { result ≡ length (live c (before bits.now words.now slots.now)) }
 {
-    let t = live_amount(c, bits, words, slots);
-    t.blocks
+    live_amount(c, bits, words, slots).blocks
 }
 
 // The totals of records that are sound. There the page bit is 0 just at free pages.
@@ -112,12 +89,12 @@ pub fn totals_sound(c: u64, bits: &[u64], words: &[u32], slots: &[u64]) -> Sums
     ensures { result ≡ summed c (before bits.now words.now slots.now) }
 {
     let t = live_amount(c, bits, words, slots);
-    let n = 512 * (c as usize);
+    let n = 512 * c as usize;
     let taken = bitrow::count_bits(bits, 0, n);
     Sums {
         refusal: 0,
-        blocks: widths::wide64(t.blocks),
-        bytes: widths::wide64(t.bytes),
-        free: widths::wide64(n - taken),
+        blocks: t.blocks as u64,
+        bytes: t.bytes as u64,
+        free: (n - taken) as u64,
     }
 }

@@ -8,4 +8,4 @@ returns-then-room-n c = listed_none _ _ _ _ c.live_count-n.ensures (omega arith)
 
 pub returns : goal.returns
 returns c =
-    listed_all _ _ _ _ _ _ c.live_count-n.ensures (omega arith) c.write_pages.ensures c.wide64.ensures
+    listed_all _ _ _ _ _ c.live_count-n.ensures (omega arith) c.write_pages.ensures

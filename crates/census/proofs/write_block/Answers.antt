@@ -6,7 +6,7 @@ use Rattle.census.proofs.write_block.Goals as goal
 
 pub bounds-room-i-2 : goal.bounds-room-i-2
 bounds-room-i-2 c =
-    omega (arith, length-set c.args.room.now c.args.i c.wide64.result)
+    omega (arith, length-set c.args.room.now c.args.i c.args.place)
 
 pub returns : goal.returns
-returns c = wrote_block _ _ _ _ _ _ c.wide64.ensures c.wide64-2.ensures
+returns c = wrote_block _ _ _ _

@@ -1,5 +1,4 @@
 -- `census::write_pages` meets its contract. Assumes nothing.
-use mathlib.Core.Path.{refl}
 use native.Mathlib.Omega.{arith}
 use Rattle.records.proofs.AdmitLaws.{admitted}
 use Rattle.census.proofs.WriteLaws.{writing_none, writing_all}
@@ -7,23 +6,21 @@ use Rattle.census.proofs.PartLaws.{page_room_lem, page_on}
 use Rattle.blocks.proofs.PageLaws.{from_start, from_over}
 use Rattle.census.proofs.write_pages.Goals as goal
 
-pub overflow_mul-end : goal.overflow_mul-end
-overflow_mul-end c = let a = admitted _ _ c.requires.0 in let h = a.shape in omega arith
+pub overflow_mul-g-end : goal.overflow_mul-g-end
+overflow_mul-g-end c = let h = (admitted _ _ c.requires.0).shape in omega arith
 
 pub loop-g-init : goal.loop-g-init
-loop-g-init c =
-    let a = admitted _ _ c.requires.0 in let h = a.shape in
-    (omega arith, refl, omega arith, writing_none _ _ _ _ (from_start _ _))
+loop-g-init c = writing_none _ _ _ _ (from_start _ _)
 
 pub write_page-i-requires : goal.write_page-i-requires
-write_page-i-requires c = record { sound = c.requires.0; inside = omega arith; room = page_room_lem _ _ c.loop-g.invariant.3 (omega arith) (omega (arith, c.requires.1)) }
+write_page-i-requires c =
+    record { sound = c.requires.0; inside = c.loop-g-test.true; room = page_room_lem _ _ c.loop-g.invariant c.loop-g-test.true (omega (arith, c.requires.1)) }
 
 pub loop-g-preserved : goal.loop-g-preserved
-loop-g-preserved c =
-    (omega arith, c.loop-g.invariant.1, c.loop-g.invariant.2, page_on _ _ c.loop-g.invariant.3 (omega arith) c.write_page-i.ensures)
+loop-g-preserved c = page_on _ _ c.loop-g.invariant c.loop-g-test.true c.write_page-i.ensures
 
 pub shape_of-room : goal.shape_of-room
-shape_of-room c = c.loop-g.invariant.3.long
+shape_of-room c = c.loop-g.invariant.long
 
 pub returns : goal.returns
-returns c = (writing_all c.loop-g.invariant.3 (from_over _ _ _ (omega arith))).text
+returns c = (writing_all c.loop-g.invariant (from_over _ _ _ c.loop-g-test.false)).text

@@ -1,8 +1,5 @@
 -- `census::write_slots` meets its contract. Assumes nothing.
-use mathlib.Core.Path.{◌≡◌}
-use mathlib.Core.Bool.{true}
-use Prim.Native.Nat.{◌+◌, ◌-◌, ◌*◌, ◌≤◌, ◌<◌}
-use Rattle.bitrow.specs.Row.{is_set}
+use Prim.Native.Nat.{◌-◌, ◌≤◌}
 use Rattle.records.specs.declared.Kind.TheVariants.{Class}
 use Rattle.records.specs.Kinds.{slots_of}
 use Rattle.census.specs.Writes.{slot_blocks}
@@ -11,7 +8,11 @@ use Rattle.classes.proofs.ClassLaws.{Cut}
 use Rattle.census.proofs.write_slots.Given as goal
 
 abbrev pub invariant-loop-s : goal.invariant-loop-s
-invariant-loop-s l = (l.s ≤ l.n) × (l.s < l.n → is_set l.slots (512 * l.g + l.s) ≡ true) × Cut l.b l.size l.n × Writing l.initial.room l.i (slot_blocks l.slots l.g l.b 0 (slots_of (Class l.b))) l.room l.k (slot_blocks l.slots l.g l.b l.s (l.n - l.s))
+invariant-loop-s l = record {
+  order : l.from ≤ l.n;
+  cut : Cut l.b l.size l.n;
+  writes : Writing l.initial.room l.i (slot_blocks l.slots l.g l.b 0 (slots_of (Class l.b))) l.room l.k (slot_blocks l.slots l.g l.b l.from (l.n - l.from));
+}
 
 abbrev pub decreases-loop-s : goal.decreases-loop-s
-decreases-loop-s l = l.n - l.s
+decreases-loop-s l = l.n - l.from

@@ -3,8 +3,8 @@ use mathlib.Core.Path.{sym, ap}
 use Rattle.next.specs.Next.{answer_of}
 use Rattle.next.proofs.answer_of.Goals as goal
 
-pub returns-in-At : goal.returns-in-At
-returns-in-At c = ap answer_of (sym c.in-At.is)
+pub returns-in-Some : goal.returns-in-Some
+returns-in-Some c = ap answer_of (sym c.in-Some.is)
 
-pub returns-in-Nothing : goal.returns-in-Nothing
-returns-in-Nothing c = ap answer_of (sym c.in-Nothing.is)
+pub returns-in-None : goal.returns-in-None
+returns-in-None c = ap answer_of (sym c.in-None.is)

@@ -23,5 +23,8 @@ put_foot-k-requires c =
 
 pub returns : goal.returns
 returns c =
-    let n = c.wide64.ensures in
-    let r = room_whole _ _ c.requires.1 in record { drawn = draw_made _ _ _ c.put_head-i.ensures.text c.put_pages-j.ensures.text c.totals_sound-t.ensures c.put_foot-k.ensures.text n; within = omega (arith, r, c.put_head-i.ensures.room, appends_length c.put_head-i.ensures.text, c.put_pages-j.ensures.room, appends_length c.put_pages-j.ensures.text, c.put_foot-k.ensures.room, appends_length c.put_foot-k.ensures.text, n) }
+    let r = room_whole _ _ c.requires.1 in
+    record {
+      drawn = draw_made _ _ _ c.put_head-i.ensures.text c.put_pages-j.ensures.text c.totals_sound-t.ensures c.put_foot-k.ensures.text;
+      within = omega (arith, r, c.put_head-i.ensures.room, appends_length c.put_head-i.ensures.text, c.put_pages-j.ensures.room, appends_length c.put_pages-j.ensures.text, c.put_foot-k.ensures.room, appends_length c.put_foot-k.ensures.text);
+    }

@@ -1,21 +1,19 @@
 -- `pagemap::put_foot` meets its contract. Assumes nothing.
 use mathlib.Core.Path.{ap}
 use native.Mathlib.Omega.{arith}
-use Rattle.pagemap.specs.Drawing.{foot_of, foot_room}
+use Rattle.pagemap.specs.Drawing.{is_svg, foot_of, foot_room}
 use Rattle.pagemap.proofs.put_foot.Goals as goal
 
 pub put_filled-requires : goal.put_filled-requires
-put_filled-requires c = omega (arith, ap foot_room c.if-svg.true)
+put_filled-requires c = omega (arith, ap (λ f. foot_room (is_svg f)) c.in-Text.is)
 
-pub put_filled-requires-else-svg : goal.put_filled-requires-else-svg
-put_filled-requires-else-svg c = omega (arith, ap foot_room c.if-svg.false)
-
-pub returns-then-svg : goal.returns-then-svg
+pub returns-in-Text : goal.returns-in-Text
 unfolding foot_of
-returns-then-svg c =
-    let e = c.if-svg.true in record { text = rw e (c.put_filled.ensures.appends); room = rw e (omega arith) }
+returns-in-Text c = record { text = rw c.in-Text.is (c.put_filled.ensures.appends); room = rw c.in-Text.is (omega arith) }
 
-pub returns-else-svg : goal.returns-else-svg
+pub put_filled-requires-in-Svg : goal.put_filled-requires-in-Svg
+put_filled-requires-in-Svg c = omega (arith, ap (λ f. foot_room (is_svg f)) c.in-Svg.is)
+
+pub returns-in-Svg : goal.returns-in-Svg
 unfolding foot_of
-returns-else-svg c =
-    let e = c.if-svg.false in record { text = rw e (c.put_filled-else-svg.ensures.appends); room = rw e (omega arith) }
+returns-in-Svg c = record { text = rw c.in-Svg.is (c.put_filled-in-Svg.ensures.appends); room = rw c.in-Svg.is (omega arith) }

@@ -2,18 +2,16 @@
 use mathlib.Core.Path.{ap}
 use native.Mathlib.Omega.{arith}
 use Rattle.text.proofs.TextLaws.{appends_none}
-use Rattle.pagemap.specs.Drawing.{head_of, head_room}
+use Rattle.pagemap.specs.Drawing.{is_svg, head_of, head_room}
 use Rattle.pagemap.proofs.put_head.Goals as goal
 
+pub returns-in-Text : goal.returns-in-Text
+unfolding head_of
+returns-in-Text c = record { text = rw c.in-Text.is (appends_none); room = rw c.in-Text.is (omega arith) }
+
 pub put_filled-requires : goal.put_filled-requires
-put_filled-requires c = omega (arith, ap head_room c.if-svg.true)
+put_filled-requires c = omega (arith, ap (λ f. head_room (is_svg f)) c.in-Svg.is)
 
-pub returns-then-svg : goal.returns-then-svg
+pub returns-in-Svg : goal.returns-in-Svg
 unfolding head_of
-returns-then-svg c =
-    let e = c.if-svg.true in record { text = rw e (c.put_filled.ensures.appends); room = rw e (omega arith) }
-
-pub returns : goal.returns
-unfolding head_of
-returns c =
-    record { text = rw c.if-svg.false (appends_none); room = rw c.if-svg.false (omega arith) }
+returns-in-Svg c = record { text = rw c.in-Svg.is (c.put_filled.ensures.appends); room = rw c.in-Svg.is (omega arith) }

@@ -11,12 +11,11 @@ overflow_mul-n c = let s = (admitted _ _ c.requires).shape in omega arith
 pub count_bits-taken-requires : goal.count_bits-taken-requires
 count_bits-taken-requires c = let s = (admitted _ _ c.requires).shape in (omega arith, omega arith)
 
-pub overflow_sub-n : goal.overflow_sub-n
-overflow_sub-n c =
+pub overflow_sub-result : goal.overflow_sub-result
+overflow_sub-result c =
     let h = free_read _ _ c.requires _ _ refl c.count_bits-taken.ensures in omega arith
 
 pub returns : goal.returns
 returns c =
     let h = free_read _ _ c.requires _ _ refl c.count_bits-taken.ensures in
-    totals_made _ _ _ _ _ _ c.live_amount-t.ensures c.wide64.ensures
-    c.wide64-2.ensures c.wide64-3.ensures (omega arith)
+    totals_made _ _ c.live_amount-t.ensures (omega arith)
