@@ -4,10 +4,13 @@
 ghost use Rattle.std.specs.Prelude.{◌≡◌, ◌+◌, ◌*◌, ◌≤◌, ◌<◌, length};
 ghost use Rattle.bitrow.specs.Row.{count_bits};
 ghost use Rattle.classes.specs.Classes.{slots};
+ghost use Rattle.records.specs.Read.{pool_of};
 ghost use Rattle.records.specs.Lent.{lent, before};
 ghost use Rattle.records.specs.Calls.{admit_of};
 ghost use Rattle.cells.specs.Cells.{cell, tenths, mark_of, run_cell, goes_on, cell_at};
 ghost use Rattle.cells.specs.Means.{CellsMean};
+
+use records::Records;
 
 // What a page shows: its character, the letter of its fill, 1 where it goes on with the cell before, how full it is in tenths, its
 // label, 0 for none. The 1 and the label are numbers of the drawing: the one moves and widens a box, the other is written where it is not 0.
@@ -85,19 +88,18 @@ fn goes_on(last: Cell) -> Cell
 }
 
 // What page g shows, behind the cell `last`, on records that are sound.
-pub fn page_cell(c: u64, bits: &[u64], words: &[u32], slots: &[u64], g: usize, last: Cell) -> Cell
-    requires sound { admit_of c (lent bits.now words.now slots.now) ≡ 0 }
-    requires inside { g < 512 * c }
+pub fn page_cell(pool: &Records, g: usize, last: Cell) -> Cell
+    requires inside { g < 512 * pool.now.chunks }
     requires level { last.level ≤ 10 }
-    ensures { (result ≡ cell_at (before bits.now words.now slots.now) last g)
+    ensures { (result ≡ cell_at (pool_of pool.now) last g)
         × (result.joined ≤ 1) × (result.level ≤ 10) }
 {
-    match records::kind_at(c, bits, words, slots, g) {
+    match pool.kind_at(g) {
         records::Kind::Edge => plain_cell(b'@', b'e', 0),
         records::Kind::Free => plain_cell(b'.', b'f', 0),
         records::Kind::Damaged => plain_cell(b'?', b'f', 0),
         records::Kind::Large(n) => plain_cell(b'L', b'l', (n + 1) as u64),
-        records::Kind::Class(b) => run_cell(slots, g, b),
+        records::Kind::Class(b) => run_cell(pool.slots, g, b),
         records::Kind::Inner(_) => goes_on(last),
     }
 }

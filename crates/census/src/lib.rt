@@ -5,6 +5,7 @@ ghost use Rattle.std.specs.Prelude.{◌≡◌, [], ◌∷◌, ◌+◌, ◌*◌, 
 ghost use Rattle.std.proofs.lemmas.List.Edits.{sets};
 ghost use Rattle.records.specs.declared.Kind.TheVariants.{Class};
 ghost use Rattle.records.specs.Kinds.{slots_of};
+ghost use Rattle.records.specs.Read.{pool_of};
 ghost use Rattle.records.specs.Lent.{lent, before};
 ghost use Rattle.records.specs.Calls.{admit_of, leaves};
 ghost use Rattle.blocks.specs.Blocks.{block, page_blocks, live};
@@ -12,6 +13,7 @@ ghost use Rattle.census.specs.Census.{words_for, list};
 ghost use Rattle.census.specs.Writes.{slot_blocks, NextTaken, Wrote};
 
 use refusals::SHORT_ROOM;
+use records::Records;
 
 // The answer of a census; C reads it as it is.
 #[repr(C)]
@@ -64,51 +66,41 @@ fn write_slots(slots: &[u64], g: usize, b: usize, room: &mut [u64], i: usize) ->
 }
 
 // Writes the blocks of the run that starts at page g.
-fn write_page(
-    c: u64,
-    bits: &[u64],
-    words: &[u32],
-    slots: &[u64],
-    g: usize,
-    room: &mut [u64],
-    i: usize,
-) -> usize
-    requires sound { admit_of c (lent bits.now words.now slots.now) ≡ 0 }
-    requires inside { g < 512 * c }
-    requires room { i + 2 * length (page_blocks (lent bits.now words.now slots.now) g) ≤ length room.old }
-    ensures { Wrote room.new room.old result i (page_blocks (before bits.now words.now slots.now) g) }
+fn write_page(pool: &Records, g: usize, room: &mut [u64], i: usize) -> usize
+    requires inside { g < 512 * pool.now.chunks }
+    requires room { i + 2 * length (page_blocks (pool_of pool.now) g) ≤ length room.old }
+    ensures { Wrote room.new room.old result i (page_blocks (pool_of pool.now) g) }
 {
-    match records::kind_at(c, bits, words, slots, g) {
-        records::Kind::Class(b) => write_slots(slots, g, b, room, i),
+    match pool.kind_at(g) {
+        records::Kind::Class(b) => write_slots(pool.slots, g, b, room, i),
         records::Kind::Large(n) => write_block(room, i, 4096 * g, 4096 * (n + 1)),
         _ => i,
     }
 }
 
 // Writes all live blocks, page by page.
-fn write_pages(c: u64, bits: &[u64], words: &[u32], slots: &[u64], room: &mut [u64])
-    requires { (admit_of c (lent bits.now words.now slots.now) ≡ 0) × (2 * length (live c (lent bits.now words.now slots.now)) ≤ length room.old) }
-    ensures { room.new ≡ sets room.old 0 (words_for (live c (before bits.now words.now slots.now))) }
+fn write_pages(pool: &Records, room: &mut [u64])
+    requires { 2 * length (live pool.now.chunks (pool_of pool.now)) ≤ length room.old }
+    ensures { room.new ≡ sets room.old 0 (words_for (live pool.now.chunks (pool_of pool.now))) }
 {
     let mut i = 0;
-    for g in 0..512 * c as usize {
-        i = write_page(c, bits, words, slots, g, room, i);
+    for g in 0..512 * pool.chunks as usize {
+        i = write_page(pool, g, room, i);
     }
 }
 
 // The work of a census, on records that are sound. Half of the room is compared: twice the count might not fit a number.
-pub fn census_sound(c: u64, bits: &[u64], words: &[u32], slots: &[u64], room: &mut [u64]) -> Counted
-    requires { admit_of c (lent bits.now words.now slots.now) ≡ 0 }
-    ensures { leaves result room.new ≡ list c (before bits.now words.now slots.now) room.old }
+pub fn census_sound(pool: &Records, room: &mut [u64]) -> Counted
+    ensures { leaves result room.new ≡ list pool.now.chunks (pool_of pool.now) room.old }
 {
-    let n = totals::live_count(c, bits, words, slots);
+    let n = totals::live_count(pool);
     if room.len() / 2 < n {
         return Counted {
             refusal: SHORT_ROOM,
             count: 0,
         };
     }
-    write_pages(c, bits, words, slots, room);
+    write_pages(pool, room);
     Counted {
         refusal: 0,
         count: n as u64,

@@ -4,11 +4,14 @@
 ghost use Rattle.std.specs.Prelude.{◌≡◌, ◌*◌, ◌/◌, ◌<◌};
 ghost use Rattle.classes.specs.Classes.{size};
 ghost use Rattle.records.specs.Pool.{kind_at, slot_at};
+ghost use Rattle.records.specs.Read.{pool_of};
 ghost use Rattle.records.specs.Lent.{lent, before};
 ghost use Rattle.records.specs.Calls.{admit_of};
 ghost use Rattle.blocks.specs.Blocks.{live};
 ghost use Rattle.next.specs.Next.{first_from, answer_of};
 ghost use Rattle.next.specs.Walk.{head, blocks_from, Least, Started};
+
+use records::Records;
 
 // A live block that was found.
 #[derive(Clone, Copy)]
@@ -44,12 +47,12 @@ fn slot_from(b: usize, off: usize) -> usize
 }
 
 // The page and slot at which the search for the place q starts. Any page but those of class runs begins at most one block, at its first byte.
-fn start_of(c: u64, bits: &[u64], words: &[u32], slots: &[u64], q: usize) -> Start
-    requires { (admit_of c (lent bits.now words.now slots.now) ≡ 0) × (q / 4096 < 512 * c) }
-    ensures { Started c (before bits.now words.now slots.now) q result.page result.slot }
+fn start_of(pool: &Records, q: usize) -> Start
+    requires { q / 4096 < 512 * pool.now.chunks }
+    ensures { Started pool.now.chunks (pool_of pool.now) q result.page result.slot }
 {
     let g = q / 4096;
-    let home = records::home_at(c, bits, words, slots, g);
+    let home = pool.home_at(g);
     let f = home.first;
     match home.kind {
         records::Kind::Class(b) => Start {
@@ -69,11 +72,11 @@ fn start_of(c: u64, bits: &[u64], words: &[u32], slots: &[u64], q: usize) -> Sta
 }
 
 // The first live block that begins at page g, of a class run that starts there one from slot s on. Free slots are passed a word at a time.
-fn first_in(c: u64, bits: &[u64], words: &[u32], slots: &[u64], g: usize, s: usize) -> Option<Found>
-    requires { (admit_of c (lent bits.now words.now slots.now) ≡ 0) × (g < 512 * c) }
-    ensures { result ≡ head (blocks_from g s (kind_at (before bits.now words.now slots.now) g) (slot_at (before bits.now words.now slots.now) g)) }
+fn first_in(pool: &Records, g: usize, s: usize) -> Option<Found>
+    requires { g < 512 * pool.now.chunks }
+    ensures { result ≡ head (blocks_from g s (kind_at (pool_of pool.now) g) (slot_at (pool_of pool.now) g)) }
 {
-    match records::kind_at(c, bits, words, slots, g) {
+    match pool.kind_at(g) {
         records::Kind::Large(k) => Some(Found {
             place: (4096 * g) as u64,
             size: (4096 * (k + 1)) as u64,
@@ -85,7 +88,7 @@ fn first_in(c: u64, bits: &[u64], words: &[u32], slots: &[u64], g: usize, s: usi
             if n <= s {
                 return None;
             }
-            let t = bitrow::next_bit(slots, 512 * g + s, 512 * g + n, true) - 512 * g;
+            let t = bitrow::next_bit(pool.slots, 512 * g + s, 512 * g + n, true) - 512 * g;
             if t == n {
                 return None;
             }
@@ -100,22 +103,21 @@ fn first_in(c: u64, bits: &[u64], words: &[u32], slots: &[u64], g: usize, s: usi
 
 // The search, on records that are sound: pages from the place on, left at the first live block. Free pages are passed a word at a time; so
 // no `for` goes from page to page.
-pub fn next_sound(c: u64, bits: &[u64], words: &[u32], slots: &[u64], q: u64) -> Option<Found>
-    requires { admit_of c (lent bits.now words.now slots.now) ≡ 0 }
-    ensures { result ≡ first_from q (live c (before bits.now words.now slots.now)) }
+pub fn next_sound(pool: &Records, q: u64) -> Option<Found>
+    ensures { result ≡ first_from q (live pool.now.chunks (pool_of pool.now)) }
 {
-    if 512 * c <= q / 4096 {
+    if 512 * pool.chunks <= q / 4096 {
         return None;
     }
-    let start = start_of(c, bits, words, slots, q as usize);
-    let end = 512 * c as usize;
+    let start = start_of(pool, q as usize);
+    let end = 512 * pool.chunks as usize;
     let mut page = start.page;
     let mut slot = start.slot;
     while page < end {
-        if let Some(found) = first_in(c, bits, words, slots, page, slot) {
+        if let Some(found) = first_in(pool, page, slot) {
             return Some(found);
         }
-        page = bitrow::next_bit(bits, page + 1, end, true);
+        page = bitrow::next_bit(pool.bits, page + 1, end, true);
         slot = 0;
     }
     None

@@ -2,6 +2,7 @@
 #![tactic(auto)]
 
 ghost use Rattle.std.specs.Prelude.{◌≡◌, true, false, ◌+◌, ◌*◌, ◌≤◌, ◌<◌, length, take};
+ghost use Rattle.records.specs.Read.{pool_of};
 ghost use Rattle.records.specs.Lent.{lent, before};
 ghost use Rattle.records.specs.Calls.{admit_of, leaves};
 ghost use Rattle.text.specs.Text.{Appends};
@@ -11,6 +12,7 @@ ghost use Rattle.pagemap.specs.Drawing.{head_room, page_room, foot_room, room_fo
 
 use refusals::SHORT_ROOM;
 use text::put_filled;
+use records::Records;
 
 // What a drawing is made as.
 #[derive(Clone, Copy)]
@@ -154,19 +156,11 @@ live $ bytes $ free pages $\n",
 }
 
 // All pages, one after the other.
-fn put_pages(
-    form: Form,
-    c: u64,
-    bits: &[u64],
-    words: &[u32],
-    slots: &[u64],
-    out: &mut [u8],
-    at: usize,
-) -> usize
-    requires { (admit_of c (lent bits.now words.now slots.now) ≡ 0) × (at + page_room (is_svg form) * (512 * c) ≤ length out.old) }
+fn put_pages(form: Form, pool: &Records, out: &mut [u8], at: usize) -> usize
+    requires { at + page_room (is_svg form) * (512 * pool.now.chunks) ≤ length out.old }
     ensures text { Appends out.old out.new at result
-        (pages_from (is_svg form) (before bits.now words.now slots.now) no_cell 0 (512 * c)) }
-    ensures room { result ≤ at + page_room (is_svg form) * (512 * c) }
+        (pages_from (is_svg form) (pool_of pool.now) no_cell 0 (512 * pool.now.chunks)) }
+    ensures room { result ≤ at + page_room (is_svg form) * (512 * pool.now.chunks) }
 {
     let mut last = cells::Cell {
         mark: 0,
@@ -176,31 +170,24 @@ fn put_pages(
         label: 0,
     };
     let mut i = at;
-    for g in 0..512 * c as usize {
-        last = cells::page_cell(c, bits, words, slots, g, last);
+    for g in 0..512 * pool.chunks as usize {
+        last = cells::page_cell(pool, g, last);
         i = put_page(form, out, i, g as u64, last);
     }
     i
 }
 
 // The drawing of records that are sound, where there is room for it.
-fn draw_sound(
-    form: Form,
-    c: u64,
-    bits: &[u64],
-    words: &[u32],
-    slots: &[u64],
-    out: &mut [u8],
-) -> Drawn
-    requires { (admit_of c (lent bits.now words.now slots.now) ≡ 0) × (room_for (is_svg form) c ≤ length out.old) }
+fn draw_sound(form: Form, pool: &Records, out: &mut [u8]) -> Drawn
+    requires { room_for (is_svg form) pool.now.chunks ≤ length out.old }
     ensures drawn { leaves result out.new
-        ≡ showing (is_svg form) c (before bits.now words.now slots.now) out.old }
+        ≡ showing (is_svg form) pool.now.chunks (pool_of pool.now) out.old }
     ensures within { result.length ≤ length out.new }
 {
-    let i = put_head(form, out, c);
-    let j = put_pages(form, c, bits, words, slots, out, i);
-    let t = totals::totals_sound(c, bits, words, slots);
-    let k = put_foot(form, out, j, c, t);
+    let i = put_head(form, out, pool.chunks);
+    let j = put_pages(form, pool, out, i);
+    let t = totals::totals_sound(pool);
+    let k = put_foot(form, out, j, pool.chunks, t);
     Drawn {
         refusal: 0,
         length: k as u64,
@@ -225,6 +212,7 @@ fn draw(form: Form, c: u64, bits: &[u64], words: &[u32], slots: &[u64], out: &mu
         ≡ drawn_of (is_svg form) c (before bits.now words.now slots.now) out.old }
     ensures within { result.length ≤ length out.new }
 {
+    let pool = Records { chunks: c, bits, words, slots };
     let a = admit::admit(c, bits, words, slots);
     if a != 0 {
         return Drawn {
@@ -238,7 +226,7 @@ fn draw(form: Form, c: u64, bits: &[u64], words: &[u32], slots: &[u64], out: &mu
             length: 0,
         };
     }
-    draw_sound(form, c, bits, words, slots, out)
+    draw_sound(form, &pool, out)
 }
 
 // The map of the pool as text, at the front of the lent buffer. Refusal 1 or 2, or 7 where the buffer is too short for some pool of c

@@ -3,10 +3,13 @@
 
 ghost use Rattle.std.specs.Prelude.{◌≡◌, ◌*◌, ◌<◌, length};
 ghost use Rattle.classes.specs.Classes.{rows};
+ghost use Rattle.records.specs.Read.{pool_of};
 ghost use Rattle.records.specs.Lent.{lent, before};
 ghost use Rattle.records.specs.Calls.{admit_of};
 ghost use Rattle.blocks.specs.Blocks.{page_blocks, live};
 ghost use Rattle.totals.specs.Totals.{amount_of, summed};
+
+use records::Records;
 
 // Some live blocks: how many, and the sum of the sizes given.
 #[derive(Clone, Copy)]
@@ -26,23 +29,15 @@ pub struct Sums {
 }
 
 // The live blocks that begin in the run that starts at page g, on records that are sound; table has the rows of all classes.
-fn page_amount(
-    c: u64,
-    bits: &[u64],
-    words: &[u32],
-    slots: &[u64],
-    table: &[classes::Row; 30],
-    g: usize,
-) -> Amount
-    requires sound { admit_of c (lent bits.now words.now slots.now) ≡ 0 }
-    requires inside { g < 512 * c }
+fn page_amount(pool: &Records, table: &[classes::Row; 30], g: usize) -> Amount
+    requires inside { g < 512 * pool.now.chunks }
     requires table { table.now ≡ rows }
-    ensures { result ≡ amount_of (page_blocks (before bits.now words.now slots.now) g) }
+    ensures { result ≡ amount_of (page_blocks (pool_of pool.now) g) }
 {
-    match records::kind_at(c, bits, words, slots, g) {
+    match pool.kind_at(g) {
         records::Kind::Class(b) => {
             let row = table[b];
-            let n = bitrow::count_bits(slots, 512 * g, usize::from(row.slots));
+            let n = bitrow::count_bits(pool.slots, 512 * g, usize::from(row.slots));
             Amount {
                 blocks: n,
                 bytes: n * usize::from(row.size),
@@ -60,15 +55,14 @@ fn page_amount(
 }
 
 // All live blocks. The class rows are copied once: a constant is written out anew at each read by index.
-fn live_amount(c: u64, bits: &[u64], words: &[u32], slots: &[u64]) -> Amount
-    requires { admit_of c (lent bits.now words.now slots.now) ≡ 0 }
-    ensures { result ≡ amount_of (live c (before bits.now words.now slots.now)) }
+fn live_amount(pool: &Records) -> Amount
+    ensures { result ≡ amount_of (live pool.now.chunks (pool_of pool.now)) }
 {
     let table = classes::class_rows();
     let mut blocks = 0;
     let mut bytes = 0;
-    for g in 0..512 * c as usize {
-        let t = page_amount(c, bits, words, slots, &table, g);
+    for g in 0..512 * pool.chunks as usize {
+        let t = page_amount(pool, &table, g);
         blocks += t.blocks;
         bytes += t.bytes;
     }
@@ -76,21 +70,19 @@ fn live_amount(c: u64, bits: &[u64], words: &[u32], slots: &[u64]) -> Amount
 }
 
 // The number of live blocks, on records that are sound.
-pub fn live_count(c: u64, bits: &[u64], words: &[u32], slots: &[u64]) -> usize
-    requires { admit_of c (lent bits.now words.now slots.now) ≡ 0 }
-    ensures { result ≡ length (live c (before bits.now words.now slots.now)) }
+pub fn live_count(pool: &Records) -> usize
+    ensures { result ≡ length (live pool.now.chunks (pool_of pool.now)) }
 {
-    live_amount(c, bits, words, slots).blocks
+    live_amount(pool).blocks
 }
 
 // The totals of records that are sound. There the page bit is 0 just at free pages.
-pub fn totals_sound(c: u64, bits: &[u64], words: &[u32], slots: &[u64]) -> Sums
-    requires { admit_of c (lent bits.now words.now slots.now) ≡ 0 }
-    ensures { result ≡ summed c (before bits.now words.now slots.now) }
+pub fn totals_sound(pool: &Records) -> Sums
+    ensures { result ≡ summed pool.now.chunks (pool_of pool.now) }
 {
-    let t = live_amount(c, bits, words, slots);
-    let n = 512 * c as usize;
-    let taken = bitrow::count_bits(bits, 0, n);
+    let t = live_amount(pool);
+    let n = 512 * pool.chunks as usize;
+    let taken = bitrow::count_bits(pool.bits, 0, n);
     Sums {
         refusal: 0,
         blocks: t.blocks as u64,

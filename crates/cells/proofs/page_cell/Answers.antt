@@ -24,7 +24,7 @@ returns-in-Large c = shown _ _ _ (Large _) c.in-Large.ensures (large_shown _ c.p
 
 pub run_cell-requires : goal.run_cell-requires
 run_cell-requires c =
-    let s = (admitted _ _ c.requires.sound).shape in record { class = class_at_low _ _ _ (sym c.in-Class.ensures); long = omega arith; low = omega arith }
+    let s = (admitted _ _ c.args.pool.now.sound).shape in record { class = class_at_low _ _ _ (sym c.in-Class.ensures); long = omega arith; low = omega arith }
 
 pub returns-in-Class : goal.returns-in-Class
 returns-in-Class c = shown _ _ _ (Class _) c.in-Class.ensures c.run_cell.ensures

@@ -11,7 +11,7 @@ use Rattle.census.proofs.write_page.Goals as goal
 
 pub write_slots-requires : goal.write_slots-requires
 write_slots-requires c =
-    let sound = c.requires.sound in let inside = c.requires.inside in let room = c.requires.room in
+    let sound = c.args.pool.now.sound in let inside = c.requires.inside in let room = c.requires.room in
     let s = (admitted _ _ sound).shape in record { low = omega arith; long = omega arith; class = class_at_low _ _ _ (sym c.in-Class.ensures); room = room_as _ _ (page_slots _ _ _ c.in-Class.ensures) room }
 
 pub returns-in-Class : goal.returns-in-Class
@@ -20,7 +20,7 @@ returns-in-Class c =
 
 pub overflow_mul-g : goal.overflow_mul-g
 overflow_mul-g c =
-    let sound = c.requires.sound in let inside = c.requires.inside in let room = c.requires.room in
+    let sound = c.args.pool.now.sound in let inside = c.requires.inside in let room = c.requires.room in
     let s = (admitted _ _ sound).shape in
     omega arith
 
@@ -36,7 +36,7 @@ overflow_mul-n c =
 
 pub write_block-requires : goal.write_block-requires
 write_block-requires c =
-    let sound = c.requires.sound in let inside = c.requires.inside in let room = c.requires.room in
+    let sound = c.args.pool.now.sound in let inside = c.requires.inside in let room = c.requires.room in
     room_as _ _ (page_run _ _ _ c.in-Large.ensures) room
 
 pub returns-in-Large : goal.returns-in-Large

@@ -6,4 +6,4 @@ use Rattle.blocks.proofs.PageLaws.{live_from}
 use Rattle.census.proofs.write_pages.Given as goal
 
 abbrev pub invariant-loop-g : goal.invariant-loop-g
-invariant-loop-g l = Writing l.initial.room 0 (live l.c (pool l.bits l.words l.slots)) l.room l.i (live_from l.c (pool l.bits l.words l.slots) l.g)
+invariant-loop-g l = Writing l.initial.room 0 (live l.pool.chunks (pool l.pool.bits.now l.pool.words.now l.pool.slots.now)) l.room l.i (live_from l.pool.chunks (pool l.pool.bits.now l.pool.words.now l.pool.slots.now) l.g)

@@ -5,7 +5,7 @@ use Rattle.next.specs.Walk.{Ahead}
 use Rattle.next.proofs.next_sound.Given as goal
 
 abbrev pub invariant-loop-page : goal.invariant-loop-page
-invariant-loop-page l = record { few : l.end ≤ 8192; ahead : Ahead l.c (pool l.bits l.words l.slots) l.q l.page l.slot }
+invariant-loop-page l = record { few : l.end ≤ 8192; ahead : Ahead l.pool.chunks (pool l.pool.bits.now l.pool.words.now l.pool.slots.now) l.q l.page l.slot }
 
 abbrev pub decreases-loop-page : goal.decreases-loop-page
 decreases-loop-page l = l.end - l.page

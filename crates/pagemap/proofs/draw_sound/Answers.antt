@@ -23,7 +23,7 @@ put_foot-k-requires c =
 
 pub returns : goal.returns
 returns c =
-    let r = room_whole _ _ c.requires.1 in
+    let r = room_whole _ _ c.requires in
     record {
       drawn = draw_made _ _ _ c.put_head-i.ensures.text c.put_pages-j.ensures.text c.totals_sound-t.ensures c.put_foot-k.ensures.text;
       within = omega (arith, r, c.put_head-i.ensures.room, appends_length c.put_head-i.ensures.text, c.put_pages-j.ensures.room, appends_length c.put_pages-j.ensures.text, c.put_foot-k.ensures.room, appends_length c.put_foot-k.ensures.text);

@@ -5,19 +5,19 @@ use Rattle.pagemap.proofs.DrawLaws.{drawing_first, drawing_kept, drawing_done, d
 use Rattle.pagemap.proofs.put_pages.Goals as goal
 
 pub overflow_mul-g-end : goal.overflow_mul-g-end
-overflow_mul-g-end c = let s = (admitted _ _ c.requires.0).shape in omega arith
+overflow_mul-g-end c = let s = (admitted _ _ c.args.pool.now.sound).shape in omega arith
 
 pub loop-g-init : goal.loop-g-init
 loop-g-init c = drawing_first
 
 pub page_cell-last-requires : goal.page_cell-last-requires
-page_cell-last-requires c = record { sound = c.requires.0; inside = c.loop-g-test.true; level = c.loop-g.invariant.level }
+page_cell-last-requires c = record { inside = c.loop-g-test.true; level = c.loop-g.invariant.level }
 
 pub put_page-i-requires : goal.put_page-i-requires
 put_page-i-requires c =
-    let s = (admitted _ _ c.requires.0).shape in
+    let s = (admitted _ _ c.args.pool.now.sound).shape in
     let p = c.page_cell-last.ensures in
-    record { room = drawing_room c.loop-g.invariant c.loop-g-test.true c.requires.1; low = omega arith; joined = p.1; level = p.2 }
+    record { room = drawing_room c.loop-g.invariant c.loop-g-test.true c.requires; low = omega arith; joined = p.1; level = p.2 }
 
 pub loop-g-preserved : goal.loop-g-preserved
 loop-g-preserved c =

@@ -5,4 +5,4 @@ use Rattle.pagemap.proofs.DrawLaws.{Drawing}
 use Rattle.pagemap.proofs.put_pages.Given as goal
 
 abbrev pub invariant-loop-g : goal.invariant-loop-g
-invariant-loop-g l = Drawing (is_svg l.form) l.c (pool l.bits l.words l.slots) l.initial.out l.at l.out l.last l.i l.g
+invariant-loop-g l = Drawing (is_svg l.form) l.pool.chunks (pool l.pool.bits.now l.pool.words.now l.pool.slots.now) l.initial.out l.at l.out l.last l.i l.g

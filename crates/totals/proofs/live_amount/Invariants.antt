@@ -4,4 +4,4 @@ use Rattle.totals.proofs.AmountLaws.{Counted}
 use Rattle.totals.proofs.live_amount.Given as goal
 
 abbrev pub invariant-loop-g : goal.invariant-loop-g
-invariant-loop-g l = Counted l.c (pool l.bits l.words l.slots) l.g l.blocks l.bytes
+invariant-loop-g l = Counted l.pool.chunks (pool l.pool.bits.now l.pool.words.now l.pool.slots.now) l.g l.blocks l.bytes

@@ -15,11 +15,11 @@ pub bounds-table-b : goal.bounds-table-b
 bounds-table-b c = let l = class_at_low _ _ _ (sym c.in-Class.ensures) in omega arith
 
 pub overflow_mul-g : goal.overflow_mul-g
-overflow_mul-g c = let s = (admitted _ _ c.requires.sound).shape in omega arith
+overflow_mul-g c = let s = (admitted _ _ c.args.pool.now.sound).shape in omega arith
 
 pub count_bits-n-requires : goal.count_bits-n-requires
 count_bits-n-requires c =
-    let s = (admitted _ _ c.requires.sound).shape in
+    let s = (admitted _ _ c.args.pool.now.sound).shape in
     let m = slots_few _ (row_read _ _ _ _ c.requires.table refl refl) c.from.ensures in
     (omega arith, omega arith)
 
