@@ -212,7 +212,6 @@ fn draw(form: Form, c: u64, bits: &[u64], words: &[u32], slots: &[u64], out: &mu
         ≡ drawn_of (is_svg form) c (before bits.now words.now slots.now) out.old }
     ensures within { result.length ≤ length out.new }
 {
-    let pool = Records { chunks: c, bits, words, slots };
     let a = admit::admit(c, bits, words, slots);
     if a != 0 {
         return Drawn {
@@ -226,6 +225,7 @@ fn draw(form: Form, c: u64, bits: &[u64], words: &[u32], slots: &[u64], out: &mu
             length: 0,
         };
     }
+    let pool = Records { chunks: c, bits, words, slots };
     draw_sound(form, &pool, out)
 }
 

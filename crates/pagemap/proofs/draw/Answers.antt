@@ -26,7 +26,7 @@ returns-then-out-room_for c =
 pub draw_sound-requires : goal.draw_sound-requires
 draw_sound-requires c =
     let r = c.room_for.ensures in
-    (sym c.admit-a.ensures ∙ c.if-a-ne0.false, omega (arith, r, c.if-out-room_for.false))
+    omega (arith, r, c.if-out-room_for.false)
 
 pub returns : goal.returns
 returns c =

@@ -7,19 +7,16 @@ use Rattle.pagemap.proofs.draw_sound.Goals as goal
 
 pub put_head-i-requires : goal.put_head-i-requires
 put_head-i-requires c =
-    let e = c.requires in
-    let s = (admitted _ _ e.0).shape in (omega (arith, room_whole _ _ e.1), s.few)
+    let s = (admitted _ _ c.args.pool.now.sound).shape in (omega (arith, room_whole _ _ c.requires), s.few)
 
 pub put_pages-j-requires : goal.put_pages-j-requires
 put_pages-j-requires c =
-    let e = c.requires in
-    (e.0, omega (arith, room_whole _ _ e.1, c.put_head-i.ensures.room, appends_length c.put_head-i.ensures.text))
+    omega (arith, room_whole _ _ c.requires, c.put_head-i.ensures.room, appends_length c.put_head-i.ensures.text)
 
 pub put_foot-k-requires : goal.put_foot-k-requires
 put_foot-k-requires c =
-    let e = c.requires in
-    let s = (admitted _ _ e.0).shape in
-    (omega (arith, room_whole _ _ e.1, c.put_head-i.ensures.room, appends_length c.put_head-i.ensures.text, c.put_pages-j.ensures.room, appends_length c.put_pages-j.ensures.text), s.few)
+    let s = (admitted _ _ c.args.pool.now.sound).shape in
+    (omega (arith, room_whole _ _ c.requires, c.put_head-i.ensures.room, appends_length c.put_head-i.ensures.text, c.put_pages-j.ensures.room, appends_length c.put_pages-j.ensures.text), s.few)
 
 pub returns : goal.returns
 returns c =
