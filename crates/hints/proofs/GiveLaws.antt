@@ -63,7 +63,7 @@ share_other z off some low n e =
 -- ---- one bit of a word, as the code tests it
 
 tested : (w u : ℕ) → u < 64 → (bit_and w (1 * 2 ^ u % 2 ^ 64) ≡ 0 → bit w u ≡ 0) × (bit_and w (1 * 2 ^ u % 2 ^ 64) ≢ 0 → bit w u ≡ 1)
-tested w u l = go (bit w u) (bit_le w u) (ap (bit_and w) (shifted u l) ∙ one_left w u)
+tested w u l = go (bit w u) (bit_le w u) (ap (bit_and w) (shifted 64 u l) ∙ one_left w u)
   where
     go : (v : ℕ) → v ≤ 1 → bit_and w (1 * 2 ^ u % 2 ^ 64) ≡ v * 2 ^ u
         → (bit_and w (1 * 2 ^ u % 2 ^ 64) ≡ 0 → v ≡ 0) × (bit_and w (1 * 2 ^ u % 2 ^ 64) ≢ 0 → v ≡ 1)
@@ -183,7 +183,7 @@ module _ {c : ℕ} {p : Pool} {rows opens : List ℕ} {g b off : ℕ} (h : Held 
       taken_bit = place_bit ∙ (tested word (s % 64) (omega arith)).1 n
 
       pub taken_low : one ≤ word
-      taken_low = let e = shifted (s % 64) (omega arith) in let l = one_le word (s % 64) (sym place_bit ∙ taken_bit) in omega arith
+      taken_low = let e = shifted 64 (s % 64) (omega arith) in let l = one_le word (s % 64) (sym place_bit ∙ taken_bit) in omega arith
 
       -- behind the last slot all bits are 0
       few : s < slots b

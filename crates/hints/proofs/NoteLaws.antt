@@ -75,8 +75,10 @@ module _ (c : ℕ) (q : Pool) (ok : admit_of c q ≡ 0) (g b : ℕ) (l : g < 512
         }
 
     -- the word is not the mask: the bit is set
-    pub told_on : {x : ℕ} → get_or q.slots (8 * g + j) 0 ≢ get_or rows (144 * b + 130 + j) 0 → x ≡ bit_or o (1 * 2 ^ j % 2 ^ 64) → Told q.slots b g (j + 1) x
-    told_on n e = told_next (e ∙ rw (ne_eqb (get_or q.slots (8 * g + j) 0) (get_or rows (144 * b + 130 + j) 0) n, shifted j (omega arith)) refl)
+    pub told_on : {x : ℕ} → get_or q.slots (8 * g + j) 0 ≢ get_or rows (144 * b + 130 + j) 0 → x ≡ bit_or o (1 * 2 ^ j % 2 ^ 8) → Told q.slots b g (j + 1) x
+    told_on n e =
+        let moved : 1 * 2 ^ j % 2 ^ 8 ≡ 2 ^ j = shifted 8 j m in
+        told_next (e ∙ rw (ne_eqb (get_or q.slots (8 * g + j) 0) (get_or rows (144 * b + 130 + j) 0) n, moved) refl)
 
     -- the word is the mask
     pub told_off : {x : ℕ} → get_or q.slots (8 * g + j) 0 ≡ get_or rows (144 * b + 130 + j) 0 → x ≡ o → Told q.slots b g (j + 1) x

@@ -149,9 +149,9 @@ marked_is row j t x y v long jl tl e f =
     let a : (8192 + j) / 64 ≡ 128 + j / 64 = omega arith in let b : (8192 + j) % 64 ≡ j % 64 = omega arith in
     rw (q, r, a, b, sym e, get_or-set_same row j x 0 (omega arith), get_or-set_other row j (128 + j / 64) x 0 (omega arith), f) refl
 
--- 1 shifted to place k
-pub shifted : (k : ℕ) → k < 64 → 1 * 2 ^ k % 2 ^ 64 ≡ 2 ^ k
-shifted k l = shl_exact {a = 1} 1 k 64 (omega arith) (omega arith) ∙ omega arith
+-- 1 shifted to place k, in a number of n bits
+pub shifted : (n k : ℕ) → k < n → 1 * 2 ^ k % 2 ^ n ≡ 2 ^ k
+shifted n k l = shl_exact {a = 1} 1 k n (omega arith) (omega arith) ∙ omega arith
 
 pub mark_set : (row : List ℕ) (g : ℕ) → length row ≡ 144 → g < 8192
     → set (set row (g / 64) (bit_or (get_or row (g / 64) 0) (1 * 2 ^ (g % 64) % 18446744073709551616))) (128 + g / 64 / 64)
@@ -161,7 +161,7 @@ mark_set row g long gl =
     let j : ℕ = g / 64 in let x : ℕ = bit_or (get_or row j 0) (2 ^ (g % 64)) in
     let is : 64 * j + g % 64 ≡ g = omega arith in
     let some : not (eqb x 0) ≡ true = ap not (ne_eqb x 0 (put_some (get_or row j 0) (g % 64) (omega arith))) in
-    rw (shifted (g % 64) (omega arith), shifted (g / 64 % 64) (omega arith), get_or-set_other row j (128 + j / 64) x 0 (omega arith))
+    rw (shifted 64 (g % 64) (omega arith), shifted 64 (g / 64 % 64) (omega arith), get_or-set_other row j (128 + j / 64) x 0 (omega arith))
     (marked_is row j (g % 64) x _ true long (omega arith) (omega arith) refl
     (ap (λ (v : Bool). word_put (digit v) (get_or row (128 + j / 64) 0) (j % 64)) (sym some))
     ∙ ap (λ (i : ℕ). marked row i true) is)

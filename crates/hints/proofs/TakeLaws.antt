@@ -137,6 +137,10 @@ module _ {p : Pool} {row opens : List ℕ} {j top : ℕ} (f : Front p row opens 
         byte = λ so x e. rw (e k low) (put_under (digit so) o k 8 (omega arith) n);
       }
 
+  pub aimed_at : top < 2 ^ 64 → get_or row j 0 < 2 ^ 64 → Lowest 64 (get_or row j 0) 1 t → {k o : ℕ} → o ≡ get_or opens g 0 → Lowest 64 o 1 k
+      → Aimed f t k o
+  aimed_at m fits first is low = aimed (reached m fits first) is low
+
   -- it is taken: bit u of the word, which is v then; x, y, l are the byte, the word of marks and the top word then
   module _ {k o : ℕ} (a : Aimed f t k o) where
     abbrev word : ℕ

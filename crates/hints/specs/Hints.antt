@@ -96,11 +96,6 @@ pub record Marks (n : ℕ) (p : Pool) (rows opens : List ℕ) : Type 0 where
 
 -- ---- how they start
 
--- the first n numbers are 0
-pub record Zeros (rows : List ℕ) (n : ℕ) : Type 0 where
-  pub long : length rows ≡ 4320
-  pub zero : (i : ℕ) → i < n → get_or rows i 0 ≡ 0
-
 -- the number at place j of the row of class b before any page is looked at
 unfoldable pub started : ℕ → ℕ → ℕ
 started b j =

@@ -9,7 +9,7 @@ ghost use Rattle.records.specs.declared.Kind.TheVariants.{Class};
 ghost use Rattle.records.specs.Pool.{kind_at};
 ghost use Rattle.records.specs.Lent.{lent, before, after};
 ghost use Rattle.records.specs.Calls.{admit_of, leaves};
-ghost use Rattle.hints.specs.Hints.{Zeros, Cuts, Marks, started, Blank, Noted, Front, Took, marked, taking, giving};
+ghost use Rattle.hints.specs.Hints.{Cuts, Marks, started, Blank, Noted, Front, Took, marked, taking, giving};
 
 use refusals::{FREE_SLOT, NO_BLOCK};
 
@@ -33,15 +33,16 @@ pub const OPENS: usize = 8192;
 
 // ---- one row
 
-// The run at page g has a free slot.
+// The run at page g has a free slot: what put_mark does with v true, but quicker, since no word is read back. Each slot that is given back
+// goes this way.
 fn set_mark(row: &mut [u64], g: usize)
     requires { (length row.old ≡ 144) × (g < 8192) }
     ensures { row.new ≡ marked row.old g true }
 {
     let j = g / 64;
-    row[j] = row[j] | (1 << (g % 64));
+    row[j] |= 1 << (g % 64);
     let t = TOP + j / 64;
-    row[t] = row[t] | (1 << (j % 64));
+    row[t] |= 1 << (j % 64);
 }
 
 // Takes the lowest free slot of a class: word j of its marks is the first that has one, and `top` the top word that says so. 512 times the
@@ -61,7 +62,7 @@ fn take_at(
 {
     let m = row[j];
     let g = 64 * j + bitrow::first_one(m) as usize;
-    let o = widths::wide64(widths::wide8(opens[g]));
+    let o = u64::from(opens[g]);
     let k = bitrow::first_one(o) as usize;
     let i = 8 * g + k;
     let w = slots[i];
@@ -107,6 +108,7 @@ pub fn take(
 
 // What starts at byte `off` of the run of class b at page g is given back: 0, or the refusal's number. Behind the last slot all bits are 0, so
 // that the count is asked for only there.
+#[tactic(auto, using(records::proofs::RunLaws::class_at_low))]
 pub fn give(
     c: u64,
     bits: &[u64],
@@ -141,7 +143,7 @@ pub fn give(
         return FREE_SLOT;
     }
     blocks::free_bit(bits, words, slots, i, bit);
-    opens[g] = opens[g] | (1 << k);
+    opens[g] |= 1 << k;
     let to = from + ROW;
     set_mark(&mut rows[from..to], g);
     0
@@ -158,6 +160,7 @@ fn put_mark(row: &mut [u64], g: usize, v: bool)
 }
 
 // The run of class b at page g is looked at anew: a slot word that is not the mask of its slots has a free one.
+#[tactic(auto, using(records::proofs::RunLaws::class_at_low))]
 pub fn note(
     c: u64,
     bits: &[u64],
@@ -175,15 +178,13 @@ pub fn note(
     ensures { Noted (before bits.now words.now slots.now) b g rows.old opens.old rows.new opens.new }
 {
     let from = ROW * b;
-    let mut o: u64 = 0;
-    let mut k = 0;
-    while k < 8 {
+    let mut o: u8 = 0;
+    for k in 0..8 {
         if slots[8 * g + k] != rows[from + MASK + k] {
-            o = o | (1 << k);
+            o |= 1 << k;
         }
-        k += 1;
     }
-    opens[g] = o as u8;
+    opens[g] = o;
     let to = from + ROW;
     put_mark(&mut rows[from..to], g, o != 0);
 }
@@ -203,13 +204,8 @@ fn note_page(
     requires inside { g < 512 * c }
     ensures { Marks (g + 1) (before bits.now words.now slots.now) rows.new opens.new }
 {
-    match records::kind_at(c, bits, words, slots, g) {
-        records::Kind::Class(b) => {
-            note(c, bits, words, slots, rows, opens, g, b);
-        }
-        _ => {
-            return;
-        }
+    if let records::Kind::Class(b) = records::kind_at(c, bits, words, slots, g) {
+        note(c, bits, words, slots, rows, opens, g, b);
     }
 }
 
@@ -222,26 +218,12 @@ pub fn build(c: u64, bits: &[u64], words: &[u32], slots: &[u64], rows: &mut [u64
 {
     start_rows(rows);
     let n = 512 * (c as usize);
-    let mut g = 0;
-    while g < n {
+    for g in 0..n {
         note_page(c, bits, words, slots, rows, opens, g);
-        g += 1;
     }
 }
 
 // ---- how the rows start
-
-// All numbers get 0.
-fn clear(rows: &mut [u64])
-    requires { length rows.old ≡ 4320 }
-    ensures { Zeros rows.new 4320 }
-{
-    let mut i = 0;
-    while i < ROWS {
-        rows[i] = 0;
-        i += 1;
-    }
-}
 
 // The number at place j, from the masks on, of the row of class b, whose runs have n slots of so many bytes.
 fn number_of(b: usize, bytes: u64, n: usize, j: usize) -> u64
@@ -256,31 +238,27 @@ fn number_of(b: usize, bytes: u64, n: usize, j: usize) -> u64
         if n <= from {
             return 0;
         }
-        return u64::MAX >> (64 - bitrow::least(64, n - from));
+        return u64::MAX >> (64 - (n - from).min(64));
     }
-    if j == COUNT {
-        return widths::wide64(n);
+    match j {
+        COUNT => n as u64,
+        SHARE => 4294967295 / bytes + 1,
+        _ => bytes,
     }
-    if j == SHARE {
-        return 4294967295 / bytes + 1;
-    }
-    bytes
 }
 
-// The numbers of all classes, fourteen each, and no mark. The rows of the classes are copied once, since a constant is written out at each read.
+// The numbers of all classes, fourteen each, and no mark.
 fn start_rows(rows: &mut [u64])
     requires { length rows.old ≡ 4320 }
     ensures { Blank rows.new }
 {
-    clear(rows);
+    rows.fill(0);
     let table = classes::class_rows();
-    let mut i = 0;
-    while i < 420 {
-        let b = i / 14;
-        let j = MASK + i % 14;
-        let bytes = widths::wide64(widths::wide16(table[b].size));
-        let n = widths::wide16(table[b].slots);
-        rows[ROW * b + j] = number_of(b, bytes, n, j);
-        i += 1;
+    for (b, class) in table.iter().enumerate() {
+        let bytes = u64::from(class.size);
+        let n = usize::from(class.slots);
+        for j in MASK..ROW {
+            rows[ROW * b + j] = number_of(b, bytes, n, j);
+        }
     }
 }

@@ -1,12 +1,9 @@
 -- `hints::build` meets its contract. Assumes nothing.
 use Rattle.records.specs.Pool.{pool}
 use Rattle.hints.specs.Hints.{Marks}
-use Prim.Native.Nat.{◌*◌, ◌-◌, ◌≤◌}
+use Prim.Native.Nat.{◌*◌}
 use mathlib.Core.Path.{◌≡◌}
 use Rattle.hints.proofs.build.Given as goal
 
 abbrev pub invariant-loop-g : goal.invariant-loop-g
-invariant-loop-g l = (l.g ≤ l.n) × (l.n ≡ 512 * l.c) × (Marks l.g (pool l.bits l.words l.slots) l.rows l.opens)
-
-abbrev pub decreases-loop-g : goal.decreases-loop-g
-decreases-loop-g l = l.n - l.g
+invariant-loop-g l = (l.n ≡ 512 * l.c) × (Marks l.g (pool l.bits l.words l.slots) l.rows l.opens)

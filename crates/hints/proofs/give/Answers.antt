@@ -8,7 +8,6 @@ use Rattle.records.specs.Pool.{Pool, kind_at}
 use Rattle.records.specs.declared.Kind.TheVariants.{Class}
 use Rattle.records.specs.Calls.{admit_of}
 use Rattle.hints.specs.Hints.{Marks}
-use Rattle.records.proofs.RunLaws.{class_at_low}
 use Rattle.hints.proofs.RowLaws.{shifted, lent_long}
 use Rattle.hints.proofs.GiveLaws.{Held, reckoned, gave_between, number_low, word_inside, taken_bit, taken_low, gave_behind, gave_free, gave_slot}
 use Rattle.hints.proofs.give.Goals as goal
@@ -41,46 +40,7 @@ set_mark-requires c = let r = reckoned (held c.requires.sound c.requires.marks c
 pub returns : goal.returns
 returns c =
     let h = (held c.requires.sound c.requires.marks c.requires.run c.requires.inside) in let both = gave_slot h c.if-s-rows.false c.if-w-bit-eq0.false _ _
-    (c.free_bit.ensures _ _ refl (shifted _ (omega arith)) (taken_bit h c.if-s-rows.false c.if-w-bit-eq0.false)) c.set_mark.ensures in record { given = both.0; marks = both.1 }
-
-pub overflow_mul-from : goal.overflow_mul-from
-overflow_mul-from c = omega (arith, class_at_low)
-
-pub overflow_add-s : goal.overflow_add-s
-overflow_add-s c = omega (arith, class_at_low)
-
-pub offset_bounds-rows-from : goal.offset_bounds-rows-from
-offset_bounds-rows-from c = omega (arith, class_at_low)
-
-pub bounds-rows-from : goal.bounds-rows-from
-bounds-rows-from c = omega (arith, class_at_low)
-
-pub overflow_add-from : goal.overflow_add-from
-overflow_add-from c = omega (arith, class_at_low)
-
-pub offset_bounds-rows-from-2 : goal.offset_bounds-rows-from-2
-offset_bounds-rows-from-2 c = omega (arith, class_at_low)
-
-pub bounds-rows-from-2 : goal.bounds-rows-from-2
-bounds-rows-from-2 c = omega (arith, class_at_low)
-
-pub overflow_add-from-then-w-bit-eq0 : goal.overflow_add-from-then-w-bit-eq0
-overflow_add-from-then-w-bit-eq0 c = omega (arith, class_at_low)
-
-pub offset_bounds-rows-from-then-w-bit-eq0 : goal.offset_bounds-rows-from-then-w-bit-eq0
-offset_bounds-rows-from-then-w-bit-eq0 c = omega (arith, class_at_low)
-
-pub bounds-rows-from-then-w-bit-eq0 : goal.bounds-rows-from-then-w-bit-eq0
-bounds-rows-from-then-w-bit-eq0 c = omega (arith, class_at_low)
-
-pub overflow_add-to : goal.overflow_add-to
-overflow_add-to c = omega (arith, class_at_low)
-
-pub offset_bounds-rows-from-3 : goal.offset_bounds-rows-from-3
-offset_bounds-rows-from-3 c = omega (arith, class_at_low)
-
-pub slice_bounds-set_mark-end : goal.slice_bounds-set_mark-end
-slice_bounds-set_mark-end c = omega (arith, class_at_low)
+    (c.free_bit.ensures _ _ refl (shifted 64 _ (omega arith)) (taken_bit h c.if-s-rows.false c.if-w-bit-eq0.false)) c.set_mark.ensures in record { given = both.0; marks = both.1 }
 
 pub overflow_mul-s : goal.overflow_mul-s
 overflow_mul-s c = omega (arith, reckoned (held c.requires.sound c.requires.marks c.requires.run c.requires.inside))

@@ -1,12 +1,9 @@
 -- `hints::note` meets its contract. Assumes nothing.
 use mathlib.Core.Path.{◌≡◌}
-use Prim.Native.Nat.{◌*◌, ◌-◌, ◌≤◌}
+use Prim.Native.Nat.{◌*◌}
 use Rattle.records.specs.Pool.{pool}
 use Rattle.hints.proofs.NoteLaws.{Told, Placed}
 use Rattle.hints.proofs.note.Given as goal
 
 abbrev pub invariant-loop-k : goal.invariant-loop-k
-invariant-loop-k l = (l.k ≤ 8) × (l.from ≡ 144 * l.b) × (Placed (pool l.bits l.words l.slots) l.g l.b) × (Told l.slots l.b l.g l.k l.o)
-
-abbrev pub decreases-loop-k : goal.decreases-loop-k
-decreases-loop-k l = 8 - l.k
+invariant-loop-k l = (l.from ≡ 144 * l.b) × (Placed (pool l.bits l.words l.slots) l.g l.b) × (Told l.slots l.b l.g l.k l.o)

@@ -24,20 +24,20 @@ high_leads c sound marks class none fits some first = leads_high _ _ sound _ _ m
 
 pub take_at-requires : goal.take_at-requires
 take_at-requires c =
-    (low_leads c.args.c c.requires.sound c.requires.marks c.requires.class (c.slice_known-5-1.given (144 * c.args.b + 128)).fits c.if-low-ne0.true c.first_one-j.ensures).0
+    (low_leads c.args.c c.requires.sound c.requires.marks c.requires.class (omega arith) c.if-low-ne0.true c.first_one-j.ensures).0
 
 pub returns-then-low-ne0 : goal.returns-then-low-ne0
 returns-then-low-ne0 c =
-    let leads = low_leads c.args.c c.requires.sound c.requires.marks c.requires.class (c.slice_known-5-1.given (144 * c.args.b + 128)).fits c.if-low-ne0.true c.first_one-j.ensures in
+    let leads = low_leads c.args.c c.requires.sound c.requires.marks c.requires.class (omega arith) c.if-low-ne0.true c.first_one-j.ensures in
     let both = leads.1 _ _ _ _ c.take_at.ensures in record { taken = both.0; marks = both.1 }
 
 pub take_at-requires-then-high-ne0 : goal.take_at-requires-then-high-ne0
 take_at-requires-then-high-ne0 c =
-    (high_leads c.args.c c.requires.sound c.requires.marks c.requires.class c.if-low-ne0.false (c.slice_known-6-1.given (144 * c.args.b + 128 + 1)).fits c.if-high-ne0.true c.first_one.ensures).0
+    (high_leads c.args.c c.requires.sound c.requires.marks c.requires.class c.if-low-ne0.false (omega arith) c.if-high-ne0.true c.first_one.ensures).0
 
 pub returns-then-high-ne0 : goal.returns-then-high-ne0
 returns-then-high-ne0 c =
-    let leads = high_leads c.args.c c.requires.sound c.requires.marks c.requires.class c.if-low-ne0.false (c.slice_known-6-1.given (144 * c.args.b + 128 + 1)).fits c.if-high-ne0.true c.first_one.ensures in
+    let leads = high_leads c.args.c c.requires.sound c.requires.marks c.requires.class c.if-low-ne0.false (omega arith) c.if-high-ne0.true c.first_one.ensures in
     let both = leads.1 _ _ _ _ c.take_at-then-high-ne0.ensures in record { taken = both.0; marks = both.1 }
 
 pub returns : goal.returns

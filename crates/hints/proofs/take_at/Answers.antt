@@ -1,63 +1,41 @@
 -- `hints::take_at` meets its contract. Assumes nothing.
 use native.Mathlib.Omega.{arith}
-use mathlib.Core.Path.{◌∙◌}
 use mathlib.Core.Bool.{not}
-use Prim.Native.Nat.{◌+◌, ◌*◌}
+use Prim.Native.Nat.{◌+◌}
 use lib.Dec.{eqb}
 use lib.ListN.{get_or}
 use Rattle.hints.proofs.RowLaws.{top_inside}
 use Rattle.hints.proofs.PartLaws.{part_cut}
-use Rattle.hints.proofs.TakeLaws.{Reached, reached, Aimed, aimed, took}
+use Rattle.hints.proofs.TakeLaws.{reached, aimed_at, took}
 use Rattle.hints.proofs.take_at.Goals as goal
 
--- `first`: the page is found; `aim`: its slot word, and the bit of its byte
+-- the page is found; then its slot word, and the bit of its byte
 pub bounds-opens-g : goal.bounds-opens-g
-bounds-opens-g c =
-    let first : Reached c.requires c.first_one.result = reached c.requires _ (omega arith) (c.slice_known-5-1.given c.args.j).fits c.first_one.ensures in
-    first.page
+bounds-opens-g c = (reached c.requires _ (omega arith) (omega arith) c.first_one.ensures).page
 
 pub bounds-slots-i : goal.bounds-slots-i
-bounds-slots-i c =
-    let first : Reached c.requires c.first_one.result = reached c.requires _ (omega arith) (c.slice_known-5-1.given c.args.j).fits c.first_one.ensures in
-    let aim : Aimed c.requires c.first_one.result c.first_one-k.result c.wide64-o.result = aimed c.requires _ first (c.wide64-o.ensures ∙ c.wide8.ensures) c.first_one-k.ensures in
-    aim.word
+bounds-slots-i c = (aimed_at c.requires _ (omega arith) (omega arith) c.first_one.ensures c.from-o.ensures c.first_one-k.ensures).word
 
 pub fill_word-v-requires : goal.fill_word-v-requires
-fill_word-v-requires c =
-    let first : Reached c.requires c.first_one.result = reached c.requires _ (omega arith) (c.slice_known-5-1.given c.args.j).fits c.first_one.ensures in
-    let aim : Aimed c.requires c.first_one.result c.first_one-k.result c.wide64-o.result = aimed c.requires _ first (c.wide64-o.ensures ∙ c.wide8.ensures) c.first_one-k.ensures in
-    aim.word
+fill_word-v-requires c = (aimed_at c.requires _ (omega arith) (omega arith) c.first_one.ensures c.from-o.ensures c.first_one-k.ensures).word
 
 pub bounds-row-k : goal.bounds-row-k
-bounds-row-k c =
-    let first : Reached c.requires c.first_one.result = reached c.requires _ (omega arith) (c.slice_known-5-1.given c.args.j).fits c.first_one.ensures in
-    let aim : Aimed c.requires c.first_one.result c.first_one-k.result c.wide64-o.result = aimed c.requires _ first (c.wide64-o.ensures ∙ c.wide8.ensures) c.first_one-k.ensures in
-    aim.mask
+bounds-row-k c = (aimed_at c.requires _ (omega arith) (omega arith) c.first_one.ensures c.from-o.ensures c.first_one-k.ensures).mask
 
 pub without_lowest-p-requires : goal.without_lowest-p-requires
-without_lowest-p-requires c =
-    let first : Reached c.requires c.first_one.result = reached c.requires _ (omega arith) (c.slice_known-5-1.given c.args.j).fits c.first_one.ensures in
-    let aim : Aimed c.requires c.first_one.result c.first_one-k.result c.wide64-o.result = aimed c.requires _ first (c.wide64-o.ensures ∙ c.wide8.ensures) c.first_one-k.ensures in
-    aim.some
+without_lowest-p-requires c = (aimed_at c.requires _ (omega arith) (omega arith) c.first_one.ensures c.from-o.ensures c.first_one-k.ensures).some
 
 pub overflow_cast-opens : goal.overflow_cast-opens
 overflow_cast-opens c =
-    let first : Reached c.requires c.first_one.result = reached c.requires _ (omega arith) (c.slice_known-5-1.given c.args.j).fits c.first_one.ensures in
-    let aim : Aimed c.requires c.first_one.result c.first_one-k.result c.wide64-o.result = aimed c.requires _ first (c.wide64-o.ensures ∙ c.wide8.ensures) c.first_one-k.ensures in
+    let aim = aimed_at c.requires _ (omega arith) (omega arith) c.first_one.ensures c.from-o.ensures c.first_one-k.ensures in
     let full = eqb c.fill_word-v.result (get_or c.args.row.now (130 + c.first_one-k.result) 0) in
     record { fits = aim.byte (not full) _ c.without_lowest-p.ensures }
 
 pub bounds-opens-g-2 : goal.bounds-opens-g-2
-bounds-opens-g-2 c =
-    let first : Reached c.requires c.first_one.result = reached c.requires _ (omega arith) (c.slice_known-5-1.given c.args.j).fits c.first_one.ensures in
-    let aim : Aimed c.requires c.first_one.result c.first_one-k.result c.wide64-o.result = aimed c.requires _ first (c.wide64-o.ensures ∙ c.wide8.ensures) c.first_one-k.ensures in
-    aim.at.page
+bounds-opens-g-2 c = (reached c.requires _ (omega arith) (omega arith) c.first_one.ensures).page
 
 pub without_lowest-l-requires : goal.without_lowest-l-requires
-without_lowest-l-requires c =
-    let first : Reached c.requires c.first_one.result = reached c.requires _ (omega arith) (c.slice_known-5-1.given c.args.j).fits c.first_one.ensures in
-    let aim : Aimed c.requires c.first_one.result c.first_one-k.result c.wide64-o.result = aimed c.requires _ first (c.wide64-o.ensures ∙ c.wide8.ensures) c.first_one-k.ensures in
-    aim.at.front
+without_lowest-l-requires c = (reached c.requires _ (omega arith) (omega arith) c.first_one.ensures).front
 
 pub bounds-row-j-3 : goal.bounds-row-j-3
 bounds-row-j-3 c =
@@ -65,8 +43,5 @@ bounds-row-j-3 c =
 
 pub returns : goal.returns
 returns c = λ f.
-    let j = c.args.j in
-    let first : Reached f c.first_one.result = reached f _ (omega arith) (c.slice_known-5-1.given j).fits c.first_one.ensures in
-    took f c.first_one.result (aimed f _ first (c.wide64-o.ensures ∙ c.wide8.ensures) c.first_one-k.ensures) _ _ _ _ _ _
-    (c.slice_known-7-1.given (8 * (64 * j + c.first_one.result) + c.first_one-k.result)).fits
-    c.first_zero.ensures c.fill_word-v.ensures c.without_lowest-p.ensures c.without_lowest-l.ensures c.without_lowest.ensures
+    took f c.first_one.result (aimed_at f _ (omega arith) (omega arith) c.first_one.ensures c.from-o.ensures c.first_one-k.ensures) _ _ _ _ _ _
+    (omega arith) c.first_zero.ensures c.fill_word-v.ensures c.without_lowest-p.ensures c.without_lowest-l.ensures c.without_lowest.ensures
