@@ -17,8 +17,7 @@ use Rattle.records.specs.Calls.{admit_of, Left, leaves}
 use Rattle.records.proofs.Flags.{lt_cases}
 use Rattle.records.proofs.AdmitLaws.{admitted}
 use Rattle.records.proofs.RunLaws.{Mid, mid_off}
-use Rattle.gaps.specs.declared.Found.{Found}
-use Rattle.gaps.specs.declared.Found.TheVariants.{At, Nothing}
+use Rattle.std.specs.Prelude.{Option, Some, None}
 use Rattle.gaps.specs.Gaps.{find_pages}
 use Rattle.blocks.specs.Stores.{put_run, LargeRoom, Good}
 use Rattle.blocks.proofs.StoreLaws.{free_off}
@@ -87,14 +86,14 @@ module _ (c : ℕ) (p : Pool) (ok : admit_of c p ≡ 0) (n : ℕ) (l : 3072 < n)
   pub run_huge : 2093056 < n → Ran 3 p
   run_huge m = refused 3 (plan_large_lem c p n _ l (large_huge c p.bits n m))
 
-  module _ (m : ℕ) (few : n ≤ 2093056) (e : m ≡ pages_for n) {x : Found} (f : x ≡ find_pages c p.bits m) where
+  module _ (m : ℕ) (few : n ≤ 2093056) (e : m ≡ pages_for n) {x : Option ℕ} (f : x ≡ find_pages c p.bits m) where
     planned : {y : Plan} → y ≡ plan_run c p.bits m → y ≡ plan c p n
     planned {y} g = plan_large_lem c p n y l (large_run c p.bits n m y few e g)
 
-    pub run_nowhere : x ≡ Nothing → Ran 4 p
+    pub run_nowhere : x ≡ None → Ran 4 p
     run_nowhere z = refused 4 (planned (run_none c p.bits m x f z))
 
-    module _ (g : ℕ) (z : x ≡ At g) where
+    module _ (g : ℕ) (z : x ≡ Some g) where
       run_ok : PlanOk c p (NewLarge g (m - 1))
       run_ok = plan_good c p n _ (planned (run_at c p.bits m x f g z)) ok
 
@@ -109,11 +108,11 @@ module _ (c : ℕ) (p : Pool) (ok : admit_of c p ≡ 0) (n : ℕ) (l : 3072 < n)
 
 -- ---- a new run of a class
 
-module _ (c : ℕ) (p : Pool) (ok : admit_of c p ≡ 0) (b n : ℕ) (l : b < 30) (m : n ≡ pages b) {x : Found} (f : x ≡ find_pages c p.bits n) where
-  pub class_nowhere : x ≡ Nothing → leaves 4 p ≡ carried p (plan_class c p.bits b)
+module _ (c : ℕ) (p : Pool) (ok : admit_of c p ≡ 0) (b n : ℕ) (l : b < 30) (m : n ≡ pages b) {x : Option ℕ} (f : x ≡ find_pages c p.bits n) where
+  pub class_nowhere : x ≡ None → leaves 4 p ≡ carried p (plan_class c p.bits b)
   class_nowhere z = ap (carried p) (class_none c p.bits b n x m f z)
 
-  module _ (g : ℕ) (z : x ≡ At g) where
+  module _ (g : ℕ) (z : x ≡ Some g) where
     planned_class : NewClass g b ≡ plan_class c p.bits b
     planned_class = class_at c p.bits b n x m f g z
 

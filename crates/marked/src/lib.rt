@@ -26,13 +26,11 @@ fn reserve_run(c: u64, bits: &mut [u64], words: &mut [u32], slots: &[u64], n: u6
     }
     let m = reserve::pages_for(n);
     match gaps::find_pages(c as usize, bits, m) {
-        gaps::Found::At(g) => {
+        Some(g) => {
             blocks::put_large(bits, words, slots, g, m - 1);
-            return widths::wide64(512 * g);
+            512 * g as u64
         }
-        gaps::Found::Nothing => {
-            return NO_ROOM;
-        }
+        None => NO_ROOM,
     }
 }
 
@@ -53,15 +51,13 @@ fn reserve_class(
     ensures marks { Marks (512 * c) (after bits.new words.new slots.new) rows.new opens.new }
 {
     let row = classes::class_row(b);
-    match gaps::find_pages(c as usize, bits, widths::wide16(row.pages)) {
-        gaps::Found::At(g) => {
+    match gaps::find_pages(c as usize, bits, usize::from(row.pages)) {
+        Some(g) => {
             reserve::perform_plan(c, bits, words, slots, reserve::Plan::NewClass(g, b));
             hints::note(c, bits, words, slots, rows, opens, g, b);
-            return widths::wide64(512 * g);
+            512 * g as u64
         }
-        gaps::Found::Nothing => {
-            return NO_ROOM;
-        }
+        None => NO_ROOM,
     }
 }
 
@@ -86,7 +82,7 @@ fn reserve_now(
     let b = classes::class_of(n as usize);
     let t = hints::take(c, bits, words, slots, rows, opens, b);
     if t != 0 {
-        return widths::wide64(t);
+        return t as u64;
     }
     reserve_class(c, bits, words, slots, rows, opens, b)
 }
@@ -97,18 +93,9 @@ fn code_of(x: reserve::Plan) -> u64
     ensures { result ≡ code_of x }
 {
     match x {
-        reserve::Plan::Refuse(r) => {
-            return r;
-        }
-        reserve::Plan::TakeSlot(g, b, s) => {
-            return widths::wide64(512 * g + s);
-        }
-        reserve::Plan::NewClass(g, b) => {
-            return widths::wide64(512 * g);
-        }
-        reserve::Plan::NewLarge(g, k) => {
-            return widths::wide64(512 * g);
-        }
+        reserve::Plan::Refuse(r) => r,
+        reserve::Plan::TakeSlot(g, _, s) => (512 * g + s) as u64,
+        reserve::Plan::NewClass(g, _) | reserve::Plan::NewLarge(g, _) => 512 * g as u64,
     }
 }
 

@@ -1,5 +1,5 @@
 -- `marked::reserve_now` meets its contract. Assumes nothing.
-use mathlib.Core.Path.{ap, ◌∙◌}
+use mathlib.Core.Path.{refl, ap, ◌∙◌}
 use native.Mathlib.Omega.{arith}
 use Rattle.records.specs.Calls.{admit_of}
 use Rattle.reserve.proofs.PlanLaws.{class_low}
@@ -17,7 +17,7 @@ take-t-requires c =
 
 pub returns-then-t-ne0 : goal.returns-then-t-ne0
 returns-then-t-ne0 c =
-    let given = c.take-t.ensures.taken in let marks = c.take-t.ensures.marks in record { given = slot_taken _ _ _ _ (omega arith) c.class_of-b.ensures given c.if-t-ne0.true c.wide64.ensures; marks = marks }
+    let given = c.take-t.ensures.taken in let marks = c.take-t.ensures.marks in record { given = slot_taken _ _ _ _ (omega arith) c.class_of-b.ensures given c.if-t-ne0.true refl; marks = marks }
 
 pub reserve_class-requires : goal.reserve_class-requires
 reserve_class-requires c =
