@@ -7,11 +7,13 @@ ghost use Rattle.std.specs.Prelude.{◌≡◌, true, ◌+◌, ◌*◌, ◌≤◌
 ghost use Rattle.classes.specs.Classes.{size, slots, pages};
 ghost use Rattle.records.specs.declared.Kind.TheVariants.{Class};
 ghost use Rattle.records.specs.Pool.{kind_at};
+ghost use Rattle.records.specs.Read.{pool_of};
 ghost use Rattle.records.specs.Lent.{lent, before, after};
 ghost use Rattle.records.specs.Calls.{admit_of, leaves};
 ghost use Rattle.hints.specs.Hints.{Cuts, Marks, started, Blank, Noted, Front, Took, marked, taking, giving};
 
 use refusals::{FREE_SLOT, NO_BLOCK};
+use records::Records;
 
 // The numbers of a row: words of marks from 0 on, tops, masks of the slot words, the class's numbers.
 const TOP: usize = 128;
@@ -161,26 +163,16 @@ fn put_mark(row: &mut [u64], g: usize, v: bool)
 
 // The run of class b at page g is looked at anew: a slot word that is not the mask of its slots has a free one.
 #[tactic(auto, using(records::proofs::RunLaws::class_at_low))]
-pub fn note(
-    c: u64,
-    bits: &[u64],
-    words: &[u32],
-    slots: &[u64],
-    rows: &mut [u64],
-    opens: &mut [u8],
-    g: usize,
-    b: usize,
-)
-    requires sound { admit_of c (lent bits.now words.now slots.now) ≡ 0 }
+pub fn note(pool: &Records, rows: &mut [u64], opens: &mut [u8], g: usize, b: usize)
     requires cuts { (Cuts rows.old) × (length opens.old ≡ 8192) }
-    requires run { kind_at (lent bits.now words.now slots.now) g ≡ Class b }
-    requires inside { g < 512 * c }
-    ensures { Noted (before bits.now words.now slots.now) b g rows.old opens.old rows.new opens.new }
+    requires run { kind_at (pool_of pool.now) g ≡ Class b }
+    requires inside { g < 512 * pool.now.chunks }
+    ensures { Noted (pool_of pool.now) b g rows.old opens.old rows.new opens.new }
 {
     let from = ROW * b;
     let mut o: u8 = 0;
     for k in 0..8 {
-        if slots[8 * g + k] != rows[from + MASK + k] {
+        if pool.slots[8 * g + k] != rows[from + MASK + k] {
             o |= 1 << k;
         }
     }
@@ -190,36 +182,26 @@ pub fn note(
 }
 
 // The marks of the pages up to g, page g among them.
-fn note_page(
-    c: u64,
-    bits: &[u64],
-    words: &[u32],
-    slots: &[u64],
-    rows: &mut [u64],
-    opens: &mut [u8],
-    g: usize,
-)
-    requires sound { admit_of c (lent bits.now words.now slots.now) ≡ 0 }
-    requires marks { Marks g (lent bits.now words.now slots.now) rows.old opens.old }
-    requires inside { g < 512 * c }
-    ensures { Marks (g + 1) (before bits.now words.now slots.now) rows.new opens.new }
+fn note_page(pool: &Records, rows: &mut [u64], opens: &mut [u8], g: usize)
+    requires marks { Marks g (pool_of pool.now) rows.old opens.old }
+    requires inside { g < 512 * pool.now.chunks }
+    ensures { Marks (g + 1) (pool_of pool.now) rows.new opens.new }
 {
-    if let records::Kind::Class(b) = records::kind_at(c, bits, words, slots, g) {
-        note(c, bits, words, slots, rows, opens, g, b);
+    if let records::Kind::Class(b) = pool.kind_at(g) {
+        note(pool, rows, opens, g, b);
     }
 }
 
 // The marks of a pool, whatever the rows held.
-pub fn build(c: u64, bits: &[u64], words: &[u32], slots: &[u64], rows: &mut [u64], opens: &mut [u8])
-    requires sound { admit_of c (lent bits.now words.now slots.now) ≡ 0 }
+pub fn build(pool: &Records, rows: &mut [u64], opens: &mut [u8])
     requires long { length rows.old ≡ 4320 }
     requires wide { length opens.old ≡ 8192 }
-    ensures { Marks (512 * c) (before bits.now words.now slots.now) rows.new opens.new }
+    ensures { Marks (512 * pool.now.chunks) (pool_of pool.now) rows.new opens.new }
 {
     start_rows(rows);
-    let n = 512 * (c as usize);
+    let n = 512 * (pool.chunks as usize);
     for g in 0..n {
-        note_page(c, bits, words, slots, rows, opens, g);
+        note_page(pool, rows, opens, g);
     }
 }
 

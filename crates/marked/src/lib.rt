@@ -13,6 +13,7 @@ ghost use Rattle.hints.specs.Hints.{Marks};
 ghost use Rattle.marked.specs.Marked.{code_of, carried, coded, SameRuns};
 
 use refusals::{NO_BLOCK, NO_ROOM, TOO_BIG};
+use records::Records;
 
 // Reserves n bytes, more than a slot holds, in free pages; no room where no gap holds them.
 fn reserve_run(c: u64, bits: &mut [u64], words: &mut [u32], slots: &[u64], n: u64) -> u64
@@ -54,7 +55,8 @@ fn reserve_class(
     match gaps::find_pages(c as usize, bits, usize::from(row.pages)) {
         Some(g) => {
             reserve::perform_plan(c, bits, words, slots, reserve::Plan::NewClass(g, b));
-            hints::note(c, bits, words, slots, rows, opens, g, b);
+            let pool = Records { chunks: c, bits, words, slots };
+            hints::note(&pool, rows, opens, g, b);
             512 * g as u64
         }
         None => NO_ROOM,
@@ -120,7 +122,8 @@ fn reserve_swept(
         return NO_ROOM;
     }
     reserve::perform_plan(c, bits, words, slots, x);
-    hints::build(c, bits, words, slots, rows, opens);
+    let pool = Records { chunks: c, bits, words, slots };
+    hints::build(&pool, rows, opens);
     code_of(x)
 }
 
@@ -164,12 +167,13 @@ pub fn release_marked(
     if 512 * c <= q / 4096 {
         return NO_BLOCK;
     }
+    let pool = Records { chunks: c, bits, words, slots };
     let at = q as usize;
     let page = at / 4096;
-    if !records::in_class(c, bits, words, slots, page) {
+    if !pool.in_class(page) {
         return release::release_sound(c, bits, words, slots, q);
     }
-    let run = records::class_run(c, bits, words, slots, page);
+    let run = pool.class_run(page);
     let off = at - 4096 * run.first;
     hints::give(
         c, bits, words, slots, rows, opens, run.first, run.class, off,

@@ -19,7 +19,7 @@ returns-then-not-in_class c =
 
 pub class_run-run-requires : goal.class_run-run-requires
 class_run-run-requires c =
-    let sound = c.requires.sound in let marks = c.requires.marks in record { sound = sound; inside = omega arith; class = sym c.in_class.ensures ∙ c.if-not-in_class.false }
+    let sound = c.requires.sound in let marks = c.requires.marks in record { inside = omega arith; class = sym c.in_class.ensures ∙ c.if-not-in_class.false }
 
 pub overflow_sub-off : goal.overflow_sub-off
 overflow_sub-off c =

@@ -17,10 +17,15 @@ perform_plan-requires c =
     let pages = pages_read _ c.class_row-row.ensures c.from.ensures in
     (sound, class_room _ _ sound _ _ class pages c.find_pages.ensures _ c.in-Some.is)
 
+pub invariant_of-pool : goal.invariant_of-pool
+invariant_of-pool c =
+    let sound = c.requires.sound in let marks = c.requires.marks in let class = c.requires.class in
+    let pages = pages_read _ c.class_row-row.ensures c.from.ensures in record { sound = (class_note _ _ sound _ _ class pages c.find_pages.ensures _ c.in-Some.is c.perform_plan.ensures marks).0 }
+
 pub note-requires : goal.note-requires
 note-requires c =
     let sound = c.requires.sound in let marks = c.requires.marks in let class = c.requires.class in
-    let pages = pages_read _ c.class_row-row.ensures c.from.ensures in let both = class_note _ _ sound _ _ class pages c.find_pages.ensures _ c.in-Some.is c.perform_plan.ensures marks in record { sound = both.0; cuts = both.1.0; run = both.1.1.0; inside = both.1.1.1 }
+    let pages = pages_read _ c.class_row-row.ensures c.from.ensures in let both = class_note _ _ sound _ _ class pages c.find_pages.ensures _ c.in-Some.is c.perform_plan.ensures marks in record { cuts = both.1.0; run = both.1.1.0; inside = both.1.1.1 }
 
 pub overflow_mul-result : goal.overflow_mul-result
 overflow_mul-result c =
