@@ -15,8 +15,7 @@ use Rattle.records.specs.declared.Kind.TheVariants.{Free}
 use Rattle.records.specs.Pool.{Pool, kind_at, slot_at}
 use Rattle.records.specs.Calls.{Left, leaves}
 use Rattle.gaps.specs.declared.Gap.{Gap}
-use Rattle.gaps.specs.declared.Found.{Found}
-use Rattle.gaps.specs.declared.Found.TheVariants.{At, Nothing}
+use Rattle.std.specs.Prelude.{Option, Some, None}
 use Rattle.gaps.specs.Gaps.{find_pages, IsGap}
 use Rattle.gaps.proofs.Answers.{found_place, place_found, nothing_none, none_nothing, free_around}
 use Rattle.blocks.specs.Blocks.{slot_block, IsSlot}
@@ -61,18 +60,18 @@ module _ (c : ℕ) (p : Pool) (n : ℕ) where
 
   -- a new run of class b, or none, where lack slot is free
   module _ (b : ℕ) (none : NoSlot c p b) where
-    new : (g : ℕ) → find_pages c p.bits (pages b) ≡ At g → NewClass g b ≡ plan_slot c p b
+    new : (g : ℕ) → find_pages c p.bits (pages b) ≡ Some g → NewClass g b ≡ plan_slot c p b
     new g e = plans.plan_new c p b (first_run c p b) _ refl (first_none c p b none) (plans.class_at c p.bits b (pages b) _ refl refl g e)
 
-    none_new : find_pages c p.bits (pages b) ≡ Nothing → Refuse no_room ≡ plan_slot c p b
+    none_new : find_pages c p.bits (pages b) ≡ None → Refuse no_room ≡ plan_slot c p b
     none_new e = plans.plan_new c p b (first_run c p b) _ refl (first_none c p b none) (plans.class_none c p.bits b (pages b) _ refl refl e)
 
   -- a large run of k pages, or none
   module _ (k : ℕ) (some : 1 ≤ k) (most : n ≤ 2093056) (many : k ≡ pages_for n) where
-    new_large : (g : ℕ) → find_pages c p.bits k ≡ At g → NewLarge g (k - 1) ≡ plan_large c p.bits n
+    new_large : (g : ℕ) → find_pages c p.bits k ≡ Some g → NewLarge g (k - 1) ≡ plan_large c p.bits n
     new_large g e = plans.large_run c p.bits n k _ most many (plans.run_at c p.bits k _ refl g e)
 
-    none_large : find_pages c p.bits k ≡ Nothing → Refuse no_room ≡ plan_large c p.bits n
+    none_large : find_pages c p.bits k ≡ None → Refuse no_room ≡ plan_large c p.bits n
     none_large e = plans.large_run c p.bits n k _ most many (plans.run_none c p.bits k _ refl e)
 
   fewest_some : (k : ℕ) → 3072 < n → Fewest n k → 1 ≤ k
@@ -121,9 +120,9 @@ module _ (c : ℕ) (p : Pool) (n : ℕ) where
         least : Smallest n b
         least = class_smallest n l
 
-        go : NoSlot c p b → (f : Found) → find_pages c p.bits (pages b) ≡ f → ((y : Left Reserved Pool) × Places c p n y) ⊎ NoRoom c p p.bits n
-        go none (At g) e = inl (_, new_run b g l least none (found_place c p.bits (pages b) g e))
-        go none Nothing e = inr (no_slot b l least none (nothing_none c p.bits (pages b) e))
+        go : NoSlot c p b → (f : Option ℕ) → find_pages c p.bits (pages b) ≡ f → ((y : Left Reserved Pool) × Places c p n y) ⊎ NoRoom c p p.bits n
+        go none (Some g) e = inl (_, new_run b g l least none (found_place c p.bits (pages b) g e))
+        go none None e = inr (no_slot b l least none (nothing_none c p.bits (pages b) e))
 
     run_rule : 3072 < n → n ≤ 2093056 → ((y : Left Reserved Pool) × Places c p n y) ⊎ NoRoom c p p.bits n
     run_rule l m = go (find_pages c p.bits (suc k)) refl
@@ -134,9 +133,9 @@ module _ (c : ℕ) (p : Pool) (n : ℕ) where
         many : suc k ≡ pages_for n
         many = omega arith
 
-        go : (f : Found) → find_pages c p.bits (suc k) ≡ f → ((y : Left Reserved Pool) × Places c p n y) ⊎ NoRoom c p p.bits n
-        go (At g) e = inl (_, large_run k g l m (fewest_made n l k many) (found_place c p.bits (suc k) g e))
-        go Nothing e = inr (no_run (suc k) l m (fewest_made n l k many) (nothing_none c p.bits (suc k) e))
+        go : (f : Option ℕ) → find_pages c p.bits (suc k) ≡ f → ((y : Left Reserved Pool) × Places c p n y) ⊎ NoRoom c p p.bits n
+        go (Some g) e = inl (_, large_run k g l m (fewest_made n l k many) (found_place c p.bits (suc k) g e))
+        go None e = inr (no_run (suc k) l m (fewest_made n l k many) (nothing_none c p.bits (suc k) e))
 
     placed : n ≤ 2093056 → ((y : Left Reserved Pool) × Places c p n y) ⊎ NoRoom c p p.bits n
     placed m = by_cases (dec_lt 3072 n) (λ l. run_rule l m) (λ l. slot_rule (omega arith))
