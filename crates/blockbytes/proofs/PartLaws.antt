@@ -40,11 +40,11 @@ module _ (ear c nleft nright : ℕ) where
       f ∙ sym (ap (λ (n : ℕ). eqb n (2097152 * c)) (cond_eq ear 0 nleft nright e))
       ∙ sym (ap (λ (t : Bool). t && eqb (chosen ear nleft nright) (2097152 * c)) (le-leb ear 1 (omega arith)))
 
-  pub fits_right : {v : Bool} → ear ≤ 1 → ear ≢ 0 → v ≡ eqb nright (2097152 * c) → v ≡ ear_fits ear c (chosen ear nleft nright)
+  pub fits_right : {v : Bool} → ear ≡ 1 → v ≡ eqb nright (2097152 * c) → v ≡ ear_fits ear c (chosen ear nleft nright)
   unfolding ear_fits
-  fits_right a b f =
-      f ∙ sym (ap (λ (n : ℕ). eqb n (2097152 * c)) (cond_ne ear 0 nleft nright b))
-      ∙ sym (ap (λ (t : Bool). t && eqb (chosen ear nleft nright) (2097152 * c)) (le-leb ear 1 a))
+  fits_right e f =
+      f ∙ sym (ap (λ (n : ℕ). eqb n (2097152 * c)) (cond_ne ear 0 nleft nright (λ z. omega arith)))
+      ∙ sym (ap (λ (t : Bool). t && eqb (chosen ear nleft nright) (2097152 * c)) (le-leb ear 1 (omega arith)))
 
   pub fits_neither : 1 < ear → false ≡ ear_fits ear c (chosen ear nleft nright)
   unfolding ear_fits

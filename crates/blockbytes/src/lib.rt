@@ -3,7 +3,7 @@
 
 ghost use Rattle.std.specs.Prelude.{◌≡◌, ◌*◌, eqb};
 ghost use Rattle.records.specs.Lent.{before};
-ghost use Rattle.blockbytes.specs.Bytes.{chosen, ear_fits, part_of, bytes_of, bytes_refusal_of};
+ghost use Rattle.blockbytes.specs.Bytes.{chosen, ear_fits, part, part_of, bytes_of, bytes_refusal_of};
 
 use refusals::SHAPE;
 
@@ -20,23 +20,29 @@ pub struct Part {
 fn is_chunks(c: u64, n: usize) -> bool
     ensures { result ≡ eqb n (2097152 * c) }
 {
-    if n % 2097152 != 0 {
-        return false;
-    }
-    widths::wide64(n / 2097152) == c
+    n % 2097152 == 0 && (n / 2097152) as u64 == c
 }
 
 // Whether there is such an ear, and its arena is that of c chunks. The other ear's is not looked at.
 fn ear_fits(ear: u64, c: u64, nleft: usize, nright: usize) -> bool
     ensures { result ≡ ear_fits ear c (chosen ear nleft nright) }
 {
-    if 1 < ear {
-        return false;
+    match ear {
+        0 => is_chunks(c, nleft),
+        1 => is_chunks(c, nright),
+        _ => false,
     }
-    if ear == 0 {
-        return is_chunks(c, nleft);
+}
+
+// What is answered where no part is served.
+fn refused(refusal: u64) -> Part
+    ensures { result ≡ part refusal 0 0 }
+{
+    Part {
+        refusal,
+        start: 0,
+        size: 0,
     }
-    is_chunks(c, nright)
 }
 
 // The part within the chosen arena, by the lengths of both.
@@ -53,27 +59,15 @@ pub fn part_of(
     ensures { result ≡ part_of ear c (before bits.now words.now slots.now) q nleft nright }
 {
     if !ear_fits(ear, c, nleft, nright) {
-        return Part {
-            refusal: SHAPE,
-            start: 0,
-            size: 0,
-        };
+        return refused(SHAPE);
     }
     let a = admit::admit(c, bits, words, slots);
     if a != 0 {
-        return Part {
-            refusal: a,
-            start: 0,
-            size: 0,
-        };
+        return refused(a);
     }
     let s = release::size_sound(c, bits, words, slots, q);
     if s.refusal != 0 {
-        return Part {
-            refusal: s.refusal,
-            start: 0,
-            size: 0,
-        };
+        return refused(s.refusal);
     }
     Part {
         refusal: 0,
@@ -98,10 +92,7 @@ pub fn bytes<'a>(
     let x = part_of(ear, c, bits, words, slots, q, left.len(), right.len());
     let a = x.start as usize;
     let e = a + x.size as usize;
-    if ear == 0 {
-        return &left[a..e];
-    }
-    &right[a..e]
+    if ear == 0 { &left[a..e] } else { &right[a..e] }
 }
 
 // The second call, with the same arguments: the refusal's number, 0 when the part is served.
@@ -117,6 +108,5 @@ pub fn bytes_refusal(
 ) -> u64
     ensures { result ≡ bytes_refusal_of ear c (before bits.now words.now slots.now) q left.now right.now }
 {
-    let x = part_of(ear, c, bits, words, slots, q, left.len(), right.len());
-    x.refusal
+    part_of(ear, c, bits, words, slots, q, left.len(), right.len()).refusal
 }

@@ -3,15 +3,18 @@ use mathlib.Core.Path.{◌≡◌, refl, sym, ap, ap₂, ◌∙◌}
 use mathlib.Core.Logic.{by_cases}
 use mathlib.Core.Bool.{Bool, true, false, cond, ◌&&◌}
 use mathlib.Core.List.{List}
-use Prim.Native.Nat.{ℕ, suc, ◌+◌, ◌*◌, ◌-◌, ◌%◌, ◌/◌, ◌^◌, ◌≤◌, ◌<◌}
+use Prim.Native.Nat.{ℕ, zero, suc, ◌+◌, ◌*◌, ◌-◌, ◌%◌, ◌/◌, ◌^◌, ◌≤◌, ◌<◌}
 use native.Mathlib.Decide.{dec_lt}
 use native.Mathlib.Nat.{div-eq_of_lt, div-one}
 use native.Mathlib.Omega.{arith}
 use lib.Dec.{eqb, ltb}
-use lib.ListN.{get_or}
+use lib.ListN.{length, get_or, take, drop, length-drop}
 use lib.Bits.{bit_or, or_add_and, and_le_l, and_le_r}
 use lib.Pow.{shr_le}
 use borrow.Author.Tests.{eqb-true, eqb-false, eq-eqb, ne_eqb, ltb-true, lt-ltb, le-ltb}
+use Rattle.std.specs.List.{fold}
+use Rattle.std.proofs.lemmas.List.{get_or-drop}
+use Rattle.std.proofs.lemmas.List.Sums.{fold_more}
 use Rattle.bitrow.specs.Row.{bit, bit_at, is_set}
 use Rattle.bitrow.proofs.Words.{bit_shr, bit_of_zero, bit_le}
 use Rattle.bitrow.proofs.Ext.{word_ext}
@@ -44,6 +47,14 @@ or_turn f j acc x e h =
     let r : j + 1 ≡ suc j = omega arith in
     rw r (or_none acc x ∙ ap₂ (λ (u v : Bool). u && v) h e)
 
+-- the OR of the first n words
+or_all : (f : ℕ → Bool) (l : List ℕ) (n : ℕ) → n ≤ length l → ((j : ℕ) → j < n → eqb (get_or l j 0) 0 ≡ f j) → eqb (fold bit_or 0 (take n l)) 0 ≡ all n f
+or_all f l zero i h = all_none f
+or_all f l (suc n) i h =
+    let r : n + 1 ≡ suc n = omega arith in
+    let e = or_turn f n (fold bit_or 0 (take n l)) (get_or l n 0) (or_all f l n (omega arith) (λ j a. h j (omega arith))) (h n (omega arith)) in
+    rw (← r) (ap (λ (x : ℕ). eqb x 0) (fold_more bit_or 0 l n 0 (omega arith)) ∙ e)
+
 -- ---- slot words
 
 word_plain : (ss : List ℕ) (g j : ℕ) → eqb (get_or ss (8 * g + j) 0) 0 ≡ word_clear ss g 0 j
@@ -52,12 +63,14 @@ word_plain ss g j =
     let r : 0 - 64 * j ≡ 0 = omega arith in
     rw r (ap (λ (x : ℕ). eqb x 0) (sym (div-one (get_or ss (8 * g + j) 0))))
 
--- the turns and the end of a loop over a page's slot words
-pub any_turn : (ss : List ℕ) (g i j acc : ℕ) → i ≡ 8 * g → eqb acc 0 ≡ all j (word_clear ss g 0)
-    → eqb (bit_or acc (get_or ss (i + j) 0)) 0 ≡ all (j + 1) (word_clear ss g 0)
-any_turn ss g i j acc r e =
-    or_turn (word_clear ss g 0) j acc (get_or ss (i + j) 0) e (ap (λ (k : ℕ). eqb (get_or ss (k + j) 0) 0) r ∙ word_plain ss g j)
+-- the eight slot words of a page at once
+pub any_slots : (ss : List ℕ) (g : ℕ) → 8 * g + 8 ≤ length ss → eqb (fold bit_or 0 (take 8 (drop (8 * g) ss))) 0 ≡ slots_clear ss g 0
+unfolding slots_clear
+any_slots ss g h =
+    or_all (word_clear ss g 0) (drop (8 * g) ss) 8 (simp length-drop (omega arith))
+    (λ j l. ap (λ (x : ℕ). eqb x 0) (get_or-drop (8 * g) ss j 0) ∙ word_plain ss g j)
 
+-- the end of a loop over them
 pub slots_done : (ss : List ℕ) (g n j acc : ℕ) → j ≤ 8 → 8 ≤ j → eqb acc 0 ≡ all j (word_clear ss g n) → eqb acc 0 ≡ slots_clear ss g n
 unfolding slots_clear
 slots_done ss g n j acc l h e = let q : j ≡ 8 = omega arith in e ∙ ap (λ (i : ℕ). all i (word_clear ss g n)) q

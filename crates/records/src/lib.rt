@@ -182,14 +182,7 @@ pub fn any_slot(slots: &[u64], g: usize) -> u64
     requires { (g < 8192) × (8 * g + 8 ≤ length slots.now) }
     ensures { eqb result 0 ≡ slots_clear slots.now g 0 }
 {
-    let i = 8 * g;
-    let mut acc: u64 = 0;
-    let mut j = 0;
-    while j < 8 {
-        acc = acc | slots[i + j];
-        j += 1;
-    }
-    acc
+    slots[8 * g..8 * g + 8].iter().fold(0, |all, w| all | w)
 }
 
 // ---- refusal 1, and what sound records promise
@@ -198,23 +191,10 @@ pub fn any_slot(slots: &[u64], g: usize) -> u64
 pub fn is_shaped(c: u64, nbits: usize, nwords: usize, nslots: usize) -> bool
     ensures { result ≡ shaped c nbits nwords nslots }
 {
-    if c < 1 {
-        return false;
-    }
-    if 16 < c {
-        return false;
-    }
-    let k = c as usize;
-    if nbits != 8 * k {
-        return false;
-    }
-    if nwords != 512 * k {
-        return false;
-    }
-    if nslots != 4096 * k {
-        return false;
-    }
-    true
+    (1..=16).contains(&c)
+        && nbits as u64 == 8 * c
+        && nwords as u64 == 512 * c
+        && nslots as u64 == 4096 * c
 }
 
 // The runs of sound records lie apart, inside their chunks and off page 0, and fresh records are sound.

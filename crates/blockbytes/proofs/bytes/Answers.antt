@@ -10,11 +10,11 @@ overflow_add-e c = record { fits = ends_low _ _ _ _ _ _ c.part_of-x.ensures (2 ^
 pub returns-then-ear-eq0 : goal.returns-then-ear-eq0
 returns-then-ear-eq0 c = bytes_left _ _ _ _ _ _ c.part_of-x.ensures c.if-ear-eq0.true
 
-pub returns : goal.returns
-returns c = bytes_right _ _ _ _ _ _ c.part_of-x.ensures c.if-ear-eq0.false
+pub returns-else-ear-eq0 : goal.returns-else-ear-eq0
+returns-else-ear-eq0 c = bytes_right _ _ _ _ _ _ c.part_of-x.ensures c.if-ear-eq0.false
 
 pub slice_bounds-result-end : goal.slice_bounds-result-end
 slice_bounds-result-end c = ends_left _ _ _ _ _ _ c.part_of-x.ensures c.if-ear-eq0.true
 
-pub slice_bounds-result-end-2 : goal.slice_bounds-result-end-2
-slice_bounds-result-end-2 c = ends_right _ _ _ _ _ _ c.part_of-x.ensures c.if-ear-eq0.false
+pub slice_bounds-result-end-else-ear-eq0 : goal.slice_bounds-result-end-else-ear-eq0
+slice_bounds-result-end-else-ear-eq0 c = ends_right _ _ _ _ _ _ c.part_of-x.ensures c.if-ear-eq0.false

@@ -3,4 +3,4 @@ use Rattle.blockbytes.proofs.PartLaws.{refusal_as}
 use Rattle.blockbytes.proofs.bytes_refusal.Goals as goal
 
 pub returns : goal.returns
-returns c = refusal_as _ _ _ _ _ _ c.part_of-x.ensures
+returns c = refusal_as _ _ _ _ _ _ c.part_of.ensures

@@ -1,14 +1,11 @@
 -- `records::any_slot` meets its contract. Assumes nothing.
-use mathlib.Core.Path.{refl}
-use native.Mathlib.Omega.{arith}
-use Rattle.records.proofs.SlotLaws.{all_none, any_turn, slots_done}
+use Rattle.std.proofs.Common.{◌≡◌, ◌*◌, rules, eqb, fold, take, drop, ap, ◌∙◌, ℕ}
+use Rattle.std.proofs.iter.runs.Made.{chains}
+use lib.Bits.{bit_or}
+use Rattle.records.proofs.SlotLaws.{any_slots}
 use Rattle.records.proofs.any_slot.Goals as goal
 
-pub loop-j-init : goal.loop-j-init
-loop-j-init c = (omega arith, refl, all_none _)
-
-pub loop-j-preserved : goal.loop-j-preserved
-loop-j-preserved c = let v = c.loop-j in (omega arith, v.invariant.1, any_turn _ _ _ _ v.acc v.invariant.1 v.invariant.2)
-
 pub returns : goal.returns
-returns c = let v = c.loop-j in slots_done _ _ _ v.j v.acc (omega arith) (omega arith) v.invariant.2
+returns c =
+    let e : c.fold.result ≡ fold bit_or 0 (take 8 (drop (8 * c.args.g) c.args.slots.now)) = search (rules, chains) in
+    ap (λ (x : ℕ). eqb x 0) e ∙ any_slots _ _ c.requires.1
