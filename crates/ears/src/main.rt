@@ -15,16 +15,16 @@ fn blank() -> [u8; 2097152]
 fn mark(arena: &mut [u8], ear: u64, q: usize)
     requires { (q ≤ 8192) × (2097152 ≡ length arena.old) }
 {
-    text::put_filled(arena, q, b"ear $ at $", &[ear, widths::wide64(q)]);
+    text::put_filled(arena, q, b"ear $ at $", &[ear, q as u64]);
 }
 
 // At the places where either ear has a block.
 fn mark_blocks(arena: &mut [u8], ear: u64)
     requires { 2097152 ≡ length arena.old }
 {
-    mark(arena, ear, 4096);
-    mark(arena, ear, 4120);
-    mark(arena, ear, 8192);
+    for q in [4096, 4120, 8192] {
+        mark(arena, ear, q);
+    }
 }
 
 // A number behind its name.
@@ -49,11 +49,11 @@ fn ask<'a>(
     let part = blockbytes::bytes(ear, c, bits, words, slots, q, left, right);
     tell(rt, b"ear ", ear);
     tell(rt, b" chunks ", c);
-    tell(rt, b" arenas ", widths::wide64(left.len()));
-    tell(rt, b" ", widths::wide64(right.len()));
+    tell(rt, b" arenas ", left.len() as u64);
+    tell(rt, b" ", right.len() as u64);
     tell(rt, b" place ", q);
     tell(rt, b": refusal ", r);
-    tell(rt, b" length ", widths::wide64(part.len()));
+    tell(rt, b" length ", part.len() as u64);
     let _ = rt.write_all(b" \"");
     let n = part.len().min(16);
     let _ = rt.write_all(&part[..n]);
@@ -70,11 +70,9 @@ fn ask_sound<'a>(
     left: &'a [u8],
     right: &'a [u8],
 ) {
-    ask(rt, ear, 1, bits, words, slots, 4096, left, right);
-    ask(rt, ear, 1, bits, words, slots, 4120, left, right);
-    ask(rt, ear, 1, bits, words, slots, 4130, left, right);
-    ask(rt, ear, 1, bits, words, slots, 8192, left, right);
-    ask(rt, ear, 1, bits, words, slots, 14336, left, right);
+    for q in [4096, 4120, 4130, 8192, 14336] {
+        ask(rt, ear, 1, bits, words, slots, q, left, right);
+    }
     ask(rt, ear, 2, bits, words, slots, 8192, left, right);
     ask(rt, 2, 1, bits, words, slots, 8192, left, right);
     // only the chosen arena's length is checked

@@ -4,18 +4,11 @@
 
 ghost use Rattle.std.specs.Prelude.{◌≡◌, length};
 
-// Room for the log, and for one byte more, which tells that it is too long.
-fn log_room() -> [u8; 1048577]
-    ensures { 1048577 ≡ length result }
+// A room of N bytes. Written out in `main`, an array as long as these takes the prover minutes.
+fn room<const N: usize>() -> [u8; N]
+    ensures { N ≡ length result }
 {
-    [0; 1048577]
-}
-
-// Room for its text: seven bytes of the log become twelve of the text or fewer.
-fn text_room() -> [u8; 1797560]
-    ensures { 1797560 ≡ length result }
-{
-    [0; 1797560]
+    [0; N]
 }
 
 fn tell(rt: &impl Eprint, what: &str) {
@@ -27,8 +20,10 @@ fn tell_field(rt: &impl Eprint, refusal: u64, position: u64) {
 }
 
 fn main(rt: HostRuntime) {
-    let mut log = log_room();
-    let mut text = text_room();
+    // Room for the log, and for one byte more, which tells that it is too long.
+    let mut log = room::<1048577>();
+    // Room for its text: seven bytes of the log become twelve of the text or fewer.
+    let mut text = room::<1797560>();
     let (n, _) = streams::read_full(&mut rt.stdin(), &mut log);
     if 1048576 < n {
         tell(&rt, "the log is longer than 1048576 bytes");

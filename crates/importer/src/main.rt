@@ -4,18 +4,11 @@
 
 ghost use Rattle.std.specs.Prelude.{◌≡◌, length};
 
-// Room for the text, and for one byte more, which tells that it is too long.
-fn text_room() -> [u8; 1048577]
-    ensures { 1048577 ≡ length result }
+// A room of N bytes. Written out in `main`, an array as long as these takes the prover minutes.
+fn room<const N: usize>() -> [u8; N]
+    ensures { N ≡ length result }
 {
-    [0; 1048577]
-}
-
-// Room for its log: a line has three bytes or more, and is seven bytes of the log.
-fn log_room() -> [u8; 2446677]
-    ensures { 2446677 ≡ length result }
-{
-    [0; 2446677]
+    [0; N]
 }
 
 fn tell(rt: &impl Eprint, what: &str) {
@@ -27,8 +20,10 @@ fn tell_line(rt: &impl Eprint, line: u64, refusal: u64) {
 }
 
 fn main(rt: HostRuntime) {
-    let mut text = text_room();
-    let mut log = log_room();
+    // Room for the text, and for one byte more, which tells that it is too long.
+    let mut text = room::<1048577>();
+    // Room for its log: a line has three bytes or more, and is seven bytes of the log.
+    let mut log = room::<2446677>();
     let (n, _) = streams::read_full(&mut rt.stdin(), &mut text);
     if 1048576 < n {
         tell(&rt, "the text is longer than 1048576 bytes");

@@ -1,4 +1,5 @@
 // Replays the log on standard input and writes an SVG picture of the pool after it to standard output.
+// The program mapper is its twin: room, call and message differ, so that a function for both would leave each no shorter.
 #![tactic(auto)]
 
 fn main(rt: HostRuntime) {
