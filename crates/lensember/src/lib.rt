@@ -1,5 +1,6 @@
 // The calls on lent buffers, each with an answer that is a number or a plain struct: `lensember_c` exports them to C (include/lensember.h).
-// Each call checks what it is lent, and then works by an inner function that needs no check.
+// Each call checks what it is lent, and then works by an inner function that needs no check. The check stands in each of them, since each tells
+// a refusal by a struct of its own, which C reads.
 #![tactic(auto)]
 
 ghost use Rattle.std.specs.Prelude.{◌≡◌};
@@ -19,6 +20,8 @@ ghost use Rattle.writer.specs.Append.{append_as};
 ghost use Rattle.exchange.specs.Exchange.{import_of, export_of};
 ghost use Rattle.lensember.specs.Flat.{flat_reserved, reserved_of};
 
+use reserve::{Given, Reserved};
+
 // struct lensember_reserved: kind is 0 for nothing, 1 for a slot, 2 for a page run; what does not apply is 0.
 #[repr(C)]
 #[derive(Clone, Copy)]
@@ -34,46 +37,34 @@ pub struct FlatReserved {
 }
 
 // An answer with its kind as a number.
-fn flat_reserved(r: reserve::Reserved) -> FlatReserved
-    ensures { result ≡ flat_reserved r }
-{
-    let k = r.kind;
-    match k {
-        reserve::Given::Slot(s) => {
-            return FlatReserved {
-                refusal: r.refusal,
-                place: r.place,
-                size: r.size,
+impl From<Reserved> for FlatReserved {
+    ghost from_gives = { λ r x. x ≡ flat_reserved r };
+
+    fn from(r: Reserved) -> FlatReserved {
+        let nothing = FlatReserved {
+            refusal: r.refusal,
+            place: r.place,
+            size: r.size,
+            kind: 0,
+            class: 0,
+            first: 0,
+            number: 0,
+            pages: 0,
+        };
+        match r.kind {
+            Given::Slot(s) => FlatReserved {
                 kind: 1,
                 class: s.class,
                 first: s.first,
                 number: s.number,
-                pages: 0,
-            };
-        }
-        reserve::Given::Run(n) => {
-            return FlatReserved {
-                refusal: r.refusal,
-                place: r.place,
-                size: r.size,
+                ..nothing
+            },
+            Given::Run(n) => FlatReserved {
                 kind: 2,
-                class: 0,
-                first: 0,
-                number: 0,
                 pages: n,
-            };
-        }
-        reserve::Given::None => {
-            return FlatReserved {
-                refusal: r.refusal,
-                place: r.place,
-                size: r.size,
-                kind: 0,
-                class: 0,
-                first: 0,
-                number: 0,
-                pages: 0,
-            };
+                ..nothing
+            },
+            Given::None => nothing,
         }
     }
 }
@@ -104,9 +95,9 @@ pub fn lensember_reserve(
 {
     let a = admit::admit(c, bits, words, slots);
     if a != 0 {
-        return flat_reserved(reserve::refused(a));
+        return FlatReserved::from(reserve::refused(a));
     }
-    flat_reserved(reserve::reserve_sound(c, bits, words, slots, size))
+    FlatReserved::from(reserve::reserve_sound(c, bits, words, slots, size))
 }
 
 // Release (RULES 5.4): 0, or refusal 1, 2, 5 or 6 and nothing is changed.

@@ -8,10 +8,10 @@ use Rattle.lensember.proofs.lensember_reserve.Goals as goal
 pub returns-then-a-ne0 : goal.returns-then-a-ne0
 unfolding reserve_of
 returns-then-a-ne0 c =
-    answer_as _ c.flat_reserved.ensures c.refused.ensures (refused _ _ _ _ c.admit-a.ensures c.if-a-ne0.true)
+    answer_as _ c.from.ensures c.refused.ensures (refused _ _ _ _ c.admit-a.ensures c.if-a-ne0.true)
 
 pub returns : goal.returns
 unfolding reserve_of
 returns c =
-    reserved_as _ c.flat_reserved-2.ensures
+    reserved_as _ c.from-2.ensures
     (c.reserve_sound.ensures ∙ served _ _ _ _ c.admit-a.ensures c.if-a-ne0.false)

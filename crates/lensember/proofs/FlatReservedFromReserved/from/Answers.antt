@@ -1,6 +1,6 @@
--- `lensember::flat_reserved` meets its contract. Assumes nothing.
+-- `lensember::FlatReserved::from` meets its contract. Assumes nothing.
 use Rattle.lensember.proofs.FlatLaws.{flat_as_lem}
-use Rattle.lensember.proofs.flat_reserved.Goals as goal
+use Rattle.lensember.proofs.FlatReservedFromReserved.from.Goals as goal
 
 pub returns-in-Slot : goal.returns-in-Slot
 returns-in-Slot c = flat_as_lem c.args.r c.in-Slot.is
