@@ -6,6 +6,7 @@ ghost use Rattle.records.specs.Lent.{before};
 ghost use Rattle.blockbytes.specs.Bytes.{chosen, ear_fits, part, part_of, bytes_of, bytes_refusal_of};
 
 use refusals::SHAPE;
+use records::Records;
 
 // A part of the chosen arena: where it starts and how long it is, or a refusal and nothing. C reads it as it is.
 #[repr(C)]
@@ -65,7 +66,8 @@ pub fn part_of(
     if a != 0 {
         return refused(a);
     }
-    let s = release::size_sound(c, bits, words, slots, q);
+    let pool = Records { chunks: c, bits, words, slots };
+    let s = release::size_sound(&pool, q);
     if s.refusal != 0 {
         return refused(s.refusal);
     }

@@ -21,6 +21,7 @@ ghost use Rattle.exchange.specs.Exchange.{import_of, export_of};
 ghost use Rattle.lensember.specs.Flat.{flat_reserved, reserved_of};
 
 use reserve::{Given, Reserved};
+use records::Records;
 
 // struct lensember_reserved: kind is 0 for nothing, 1 for a slot, 2 for a page run; what does not apply is 0.
 #[repr(C)]
@@ -171,7 +172,8 @@ pub fn lensember_block_size(
             size: 0,
         };
     }
-    release::size_sound(c, bits, words, slots, place)
+    let pool = Records { chunks: c, bits, words, slots };
+    release::size_sound(&pool, place)
 }
 
 // Next (RULES 6.3): the live block with the lowest place at or above a place, or refusal 1 or 2.
@@ -186,7 +188,8 @@ pub fn lensember_next(c: u64, bits: &[u64], words: &[u32], slots: &[u64], place:
             size: 0,
         };
     }
-    next::answer_of(next::next_sound(c, bits, words, slots, place))
+    let pool = Records { chunks: c, bits, words, slots };
+    next::answer_of(next::next_sound(&pool, place))
 }
 
 // Census (RULES 6.4): the count of the live blocks, or refusal 1, 2 or 7 and nothing is written.
@@ -206,7 +209,8 @@ pub fn lensember_census(
             count: 0,
         };
     }
-    census::census_sound(c, bits, words, slots, room)
+    let pool = Records { chunks: c, bits, words, slots };
+    census::census_sound(&pool, room)
 }
 
 // Totals (RULES 6.5), or refusal 1 or 2.
@@ -222,7 +226,8 @@ pub fn lensember_totals(c: u64, bits: &[u64], words: &[u32], slots: &[u64]) -> t
             free: 0,
         };
     }
-    totals::totals_sound(c, bits, words, slots)
+    let pool = Records { chunks: c, bits, words, slots };
+    totals::totals_sound(&pool)
 }
 
 // Bytes (RULES 6.6), by the lengths of both arenas: where the part lies in the chosen one. A slice cannot be handed back to C.
