@@ -5,8 +5,8 @@ ghost use Rattle.std.specs.Prelude.{◌≡◌, ◌*◌, eqb};
 ghost use Rattle.records.specs.Lent.{before};
 ghost use Rattle.blockbytes.specs.Bytes.{chosen, ear_fits, part, part_of, bytes_of, bytes_refusal_of};
 
-use refusals::SHAPE;
 use records::Records;
+use refusals::SHAPE;
 
 // A part of the chosen arena: where it starts and how long it is, or a refusal and nothing. C reads it as it is.
 #[repr(C)]
@@ -66,7 +66,12 @@ pub fn part_of(
     if a != 0 {
         return refused(a);
     }
-    let pool = Records { chunks: c, bits, words, slots };
+    let pool = Records {
+        chunks: c,
+        bits,
+        words,
+        slots,
+    };
     let s = release::size_sound(&pool, q);
     if s.refusal != 0 {
         return refused(s.refusal);

@@ -72,7 +72,8 @@ pub fn put_class(bits: &mut [u64], words: &mut [u32], slots: &[u64], g: usize, b
     class_words(words, g, b, n);
 }
 
-// A large run at page g, with k pages behind it. These have the word 0 already, so only the first is written.
+// A large run at page g, with k pages behind it. These have the word 0 already, so only the first is written. This call and `free_large` are two
+// lines each: one function for both would take the bit and the word beside their five arguments.
 pub fn put_large(bits: &mut [u64], words: &mut [u32], slots: &[u64], g: usize, k: usize)
     requires { LargeRoom g k bits.old words.old }
     ensures { after bits.new words.new slots.now ≡ put_run 1 (before bits.old words.old slots.now) g (words_of (Large k)) }

@@ -5,8 +5,6 @@ ghost use Rattle.std.specs.Prelude.{◌≡◌, ◌+◌, ◌*◌, ◌≤◌, ◌<
 ghost use Rattle.bitrow.specs.Row.{count_bits};
 ghost use Rattle.classes.specs.Classes.{slots};
 ghost use Rattle.records.specs.Read.{pool_of};
-ghost use Rattle.records.specs.Lent.{lent, before};
-ghost use Rattle.records.specs.Calls.{admit_of};
 ghost use Rattle.cells.specs.Cells.{cell, tenths, mark_of, run_cell, goes_on, cell_at};
 ghost use Rattle.cells.specs.Means.{CellsMean};
 

@@ -6,14 +6,13 @@ ghost use Rattle.std.proofs.lemmas.List.Edits.{sets};
 ghost use Rattle.records.specs.declared.Kind.TheVariants.{Class};
 ghost use Rattle.records.specs.Kinds.{slots_of};
 ghost use Rattle.records.specs.Read.{pool_of};
-ghost use Rattle.records.specs.Lent.{lent, before};
-ghost use Rattle.records.specs.Calls.{admit_of, leaves};
+ghost use Rattle.records.specs.Calls.{leaves};
 ghost use Rattle.blocks.specs.Blocks.{block, page_blocks, live};
 ghost use Rattle.census.specs.Census.{words_for, list};
 ghost use Rattle.census.specs.Writes.{slot_blocks, NextTaken, Wrote};
 
-use refusals::SHORT_ROOM;
 use records::Records;
+use refusals::SHORT_ROOM;
 
 // The answer of a census; C reads it as it is.
 #[repr(C)]

@@ -12,8 +12,8 @@ ghost use Rattle.records.specs.Lent.{lent, before, after};
 ghost use Rattle.records.specs.Calls.{admit_of, leaves};
 ghost use Rattle.hints.specs.Hints.{Cuts, Marks, started, Blank, Noted, Front, Took, marked, taking, giving};
 
-use refusals::{FREE_SLOT, NO_BLOCK};
 use records::Records;
+use refusals::{FREE_SLOT, NO_BLOCK};
 
 // The numbers of a row: words of marks from 0 on, tops, masks of the slot words, the class's numbers.
 const TOP: usize = 128;

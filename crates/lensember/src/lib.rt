@@ -20,8 +20,8 @@ ghost use Rattle.writer.specs.Append.{append_as};
 ghost use Rattle.exchange.specs.Exchange.{import_of, export_of};
 ghost use Rattle.lensember.specs.Flat.{flat_reserved, reserved_of};
 
-use reserve::{Given, Reserved};
 use records::Records;
+use reserve::{Given, Reserved};
 
 // struct lensember_reserved: kind is 0 for nothing, 1 for a slot, 2 for a page run; what does not apply is 0.
 #[repr(C)]
@@ -172,7 +172,12 @@ pub fn lensember_block_size(
             size: 0,
         };
     }
-    let pool = Records { chunks: c, bits, words, slots };
+    let pool = Records {
+        chunks: c,
+        bits,
+        words,
+        slots,
+    };
     release::size_sound(&pool, place)
 }
 
@@ -188,7 +193,12 @@ pub fn lensember_next(c: u64, bits: &[u64], words: &[u32], slots: &[u64], place:
             size: 0,
         };
     }
-    let pool = Records { chunks: c, bits, words, slots };
+    let pool = Records {
+        chunks: c,
+        bits,
+        words,
+        slots,
+    };
     next::answer_of(next::next_sound(&pool, place))
 }
 
@@ -209,7 +219,12 @@ pub fn lensember_census(
             count: 0,
         };
     }
-    let pool = Records { chunks: c, bits, words, slots };
+    let pool = Records {
+        chunks: c,
+        bits,
+        words,
+        slots,
+    };
     census::census_sound(&pool, room)
 }
 
@@ -226,7 +241,12 @@ pub fn lensember_totals(c: u64, bits: &[u64], words: &[u32], slots: &[u64]) -> t
             free: 0,
         };
     }
-    let pool = Records { chunks: c, bits, words, slots };
+    let pool = Records {
+        chunks: c,
+        bits,
+        words,
+        slots,
+    };
     totals::totals_sound(&pool)
 }
 

@@ -12,8 +12,8 @@ ghost use Rattle.release.specs.Release.{give};
 ghost use Rattle.hints.specs.Hints.{Marks};
 ghost use Rattle.marked.specs.Marked.{code_of, carried, coded, SameRuns};
 
-use refusals::{NO_BLOCK, NO_ROOM, TOO_BIG};
 use records::Records;
+use refusals::{NO_BLOCK, NO_ROOM, TOO_BIG};
 
 // Reserves n bytes, more than a slot holds, in free pages; no room where no gap holds them.
 fn reserve_run(c: u64, bits: &mut [u64], words: &mut [u32], slots: &[u64], n: u64) -> u64
@@ -55,7 +55,12 @@ fn reserve_class(
     match gaps::find_pages(c as usize, bits, usize::from(row.pages)) {
         Some(g) => {
             reserve::perform_plan(c, bits, words, slots, reserve::Plan::NewClass(g, b));
-            let pool = Records { chunks: c, bits, words, slots };
+            let pool = Records {
+                chunks: c,
+                bits,
+                words,
+                slots,
+            };
             hints::note(&pool, rows, opens, g, b);
             512 * g as u64
         }
@@ -122,7 +127,12 @@ fn reserve_swept(
         return NO_ROOM;
     }
     reserve::perform_plan(c, bits, words, slots, x);
-    let pool = Records { chunks: c, bits, words, slots };
+    let pool = Records {
+        chunks: c,
+        bits,
+        words,
+        slots,
+    };
     hints::build(&pool, rows, opens);
     code_of(x)
 }
@@ -167,7 +177,12 @@ pub fn release_marked(
     if 512 * c <= q / 4096 {
         return NO_BLOCK;
     }
-    let pool = Records { chunks: c, bits, words, slots };
+    let pool = Records {
+        chunks: c,
+        bits,
+        words,
+        slots,
+    };
     let at = q as usize;
     let page = at / 4096;
     if !pool.in_class(page) {

@@ -3,16 +3,16 @@
 
 ghost use Rattle.std.specs.Prelude.{◌≡◌, true, false, ◌+◌, ◌*◌, ◌≤◌, ◌<◌, length, take};
 ghost use Rattle.records.specs.Read.{pool_of};
-ghost use Rattle.records.specs.Lent.{lent, before};
-ghost use Rattle.records.specs.Calls.{admit_of, leaves};
+ghost use Rattle.records.specs.Lent.{before};
+ghost use Rattle.records.specs.Calls.{leaves};
 ghost use Rattle.text.specs.Text.{Appends};
 ghost use Rattle.cells.specs.Cells.{no_cell};
 ghost use Rattle.pagemap.specs.Drawing.{is_svg, svg_page, head_of, page_of, foot_of, pages_from};
 ghost use Rattle.pagemap.specs.Drawing.{head_room, page_room, foot_room, room_for, showing, drawn_of};
 
+use records::Records;
 use refusals::SHORT_ROOM;
 use text::put_filled;
-use records::Records;
 
 // What a drawing is made as.
 #[derive(Clone, Copy)]
@@ -225,7 +225,12 @@ fn draw(form: Form, c: u64, bits: &[u64], words: &[u32], slots: &[u64], out: &mu
             length: 0,
         };
     }
-    let pool = Records { chunks: c, bits, words, slots };
+    let pool = Records {
+        chunks: c,
+        bits,
+        words,
+        slots,
+    };
     draw_sound(form, &pool, out)
 }
 

@@ -12,8 +12,8 @@ ghost use Rattle.release.specs.Release.{spot};
 ghost use Rattle.resize.specs.Resize.{can_grow, fit_pages, fit_run, fit_slot, change, recut, refused, kept, moved, moving, resize};
 ghost use Rattle.resize.specs.Settle.{ChunkIn, SpotLow, settled, Tells};
 
-use refusals::TOO_BIG;
 use records::Records;
+use refusals::TOO_BIG;
 
 // What becomes of a block: it is refused with a number; stays as it is, of so many bytes; is a large run at page g that gets j pages behind
 // its first in place of k; or, of so many bytes, is moved.
@@ -238,7 +238,12 @@ pub fn resize_sound(
     requires { admit_of c (lent bits.old words.old slots.old) ≡ 0 }
     ensures { leaves result (after bits.new words.new slots.new) ≡ resize c (before bits.old words.old slots.old) q n }
 {
-    let pool = Records { chunks: c, bits, words, slots };
+    let pool = Records {
+        chunks: c,
+        bits,
+        words,
+        slots,
+    };
     let x = release::spot_at(&pool, q);
     match settle(c, bits, words, slots, q, n, x) {
         Settled::Over(r) => r,

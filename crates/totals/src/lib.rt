@@ -4,8 +4,6 @@
 ghost use Rattle.std.specs.Prelude.{◌≡◌, ◌*◌, ◌<◌, length};
 ghost use Rattle.classes.specs.Classes.{rows};
 ghost use Rattle.records.specs.Read.{pool_of};
-ghost use Rattle.records.specs.Lent.{lent, before};
-ghost use Rattle.records.specs.Calls.{admit_of};
 ghost use Rattle.blocks.specs.Blocks.{page_blocks, live};
 ghost use Rattle.totals.specs.Totals.{amount_of, summed};
 
