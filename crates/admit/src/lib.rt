@@ -49,12 +49,13 @@ struct Progress {
     due: u32,
 }
 
-// The same behind a page, and the page's stray slot bits.
+// The same behind a page, and before it the page's stray slot bits. `page` computes the fields in this order: if the pages to come were
+// computed before the word, a page inside a large run would take a tenth more time.
 #[derive(Clone, Copy)]
 struct PageStep {
-    left: u32,
-    due: u32,
     stray: u64,
+    due: u32,
+    left: u32,
 }
 
 // The word of the next page inside a run: large runs have zeros there, class runs count up.
@@ -89,9 +90,9 @@ fn page(
             return None;
         }
         return Some(PageStep {
-            left: left - 1,
-            due: next_word(due),
             stray: records::any_slot(slots, g),
+            due: next_word(due),
+            left: left - 1,
         });
     }
     if (0x80000000..0x8000001E).contains(&w) {
@@ -100,9 +101,9 @@ fn page(
         }
         let b = (w - 0x80000000) as usize;
         return Some(PageStep {
-            left: behinds[b],
-            due: w + 0x40010000,
             stray: stray_slot(slots, g, masks, b),
+            due: w + 0x40010000,
+            left: behinds[b],
         });
     }
     if !taken {
@@ -110,16 +111,16 @@ fn page(
             return None;
         }
         return Some(PageStep {
-            left: 0,
-            due: 0,
             stray: records::any_slot(slots, g),
+            due: 0,
+            left: 0,
         });
     }
     if (0x40000001..0x40000200).contains(&w) {
         return Some(PageStep {
-            left: w - 0x40000001,
-            due: 0,
             stray: records::any_slot(slots, g),
+            due: 0,
+            left: w - 0x40000001,
         });
     }
     None
