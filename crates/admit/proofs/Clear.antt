@@ -1,14 +1,13 @@
 -- The masks of the classes, and the pages behind the first of a run of each. Assumes nothing.
-use mathlib.Core.Path.{◌≡◌, refl, sym, ap, ap₂, ◌∙◌, subst}
+use mathlib.Core.Path.{◌≡◌, refl, sym, ap, ap₂, ◌∙◌}
 use mathlib.Core.Logic.{by_cases}
 use mathlib.Core.List.{List, [], ◌∷◌}
 use Prim.Native.Nat.{ℕ, zero, suc, ◌+◌, ◌*◌, ◌-◌, ◌%◌, ◌/◌, ◌^◌, ◌≤◌, ◌<◌}
-use native.Mathlib.Decide.{dec_le, ℕ_discrete}
+use native.Mathlib.Decide.{dec_le}
 use native.Mathlib.Nat.{zero-mul, div-eq_of_lt}
 use native.Mathlib.Omega.{arith}
 use lib.Dec.{eqb}
-use lib.ListN.{length, get_or, set, length-set}
-use lib.Seq.{get_or-set_same, get_or-set_other}
+use lib.ListN.{length, get_or}
 use lib.Bits.{bit_or, bit_and, and_high, and_zero_r}
 use lib.Pow.{pow_pos, pow_mono, shr_mod}
 use borrow.Author.Tests.{eq-eqb, ne_eqb}
@@ -20,7 +19,6 @@ use Rattle.records.specs.Sound.{all}
 use Rattle.admit.specs.Masks.{stray_mask, mask_row, masks_of, mask_table}
 use Rattle.records.specs.Slots.{word_clear}
 use Rattle.records.proofs.SlotLaws.{or_turn}
-use Rattle.admit.specs.Pages.{Behinds}
 
 -- ---- masks
 
@@ -78,13 +76,12 @@ word_masked ss ms g b j e h l k =
     ap (λ (m : ℕ). eqb (bit_and (get_or ss (8 * g + j) 0) m) 0) (ap (λ (t : List ℕ). get_or t (8 * b + j) 0) e ∙ mask_at b j h l)
     ∙ mask_clear (get_or ss (8 * g + j) 0) (slots b - 64 * j) k
 
--- the turns and the end of the two loops over a page's slot words
-pub stray_turn : (ss ms : List ℕ) (g b i m j acc : ℕ) → i ≡ 8 * g → m ≡ 8 * b → ms ≡ mask_table → b < 30 → j < 8 → get_or ss (i + j) 0 < 2 ^ 64
-    → eqb acc 0 ≡ all j (word_clear ss g (slots b)) → eqb (bit_or acc (bit_and (get_or ss (i + j) 0) (get_or ms (m + j) 0))) 0 ≡ all (j + 1) (word_clear ss g (slots b))
-stray_turn ss ms g b i m j acc r q t h l k e =
-    or_turn (word_clear ss g (slots b)) j acc (bit_and (get_or ss (i + j) 0) (get_or ms (m + j) 0)) e
-    (ap₂ (λ (a c : ℕ). eqb (bit_and (get_or ss (a + j) 0) (get_or ms (c + j) 0)) 0) r q
-    ∙ word_masked ss ms g b j t h l (subst (λ (a : ℕ). get_or ss (a + j) 0 < 2 ^ 64) r k))
+-- a turn of the loop over a page's slot words
+pub stray_turn : (ss ms : List ℕ) (g b j acc : ℕ) → ms ≡ mask_table → b < 30 → j < 8 → get_or ss (8 * g + j) 0 < 2 ^ 64
+    → eqb acc 0 ≡ all j (word_clear ss g (slots b))
+    → eqb (bit_or acc (bit_and (get_or ss (8 * g + j) 0) (get_or ms (8 * b + j) 0))) 0 ≡ all (j + 1) (word_clear ss g (slots b))
+stray_turn ss ms g b j acc t h l k e =
+    or_turn (word_clear ss g (slots b)) j acc (bit_and (get_or ss (8 * g + j) 0) (get_or ms (8 * b + j) 0)) e (word_masked ss ms g b j t h l k)
 
 -- ---- the pages behind a run's first
 
@@ -93,29 +90,6 @@ pub row_some : (d : Row) (rs : List Row) (k : ℕ) → rs ≡ rows → k < 30 �
 unfolding row_at
 row_some d rs k e l z = let f = (row_facts k l).pages_least in rw (e, z) f
 
-row_behind : (d : Row) (rs : List Row) (k : ℕ) → rs ≡ rows → d ≡ row_of 0 0 0 → (get_or rs k d).pages - 1 ≡ behind k
+pub row_behind : (d : Row) (rs : List Row) (k : ℕ) → rs ≡ rows → d ≡ row_of 0 0 0 → (get_or rs k d).pages - 1 ≡ behind k
 unfolding row_at behind
 row_behind d rs k e z = ap₂ (λ (l : List Row) (x : Row). (get_or l k x).pages - 1) e z
-
--- the table, filled up to k
-pub record BehindUp (l : List ℕ) (k : ℕ) : Type 0 where
-  pub long : length l ≡ 30
-  pub at : (j : ℕ) → j < k → get_or l j 0 ≡ behind j
-
-pub up_start : (l : List ℕ) → length l ≡ 30 → BehindUp l 0
-up_start l e = record { long = e; at = λ j h. absurd (omega arith) }
-
-pub up_on : (d : Row) (rs : List Row) (l : List ℕ) (k : ℕ) → rs ≡ rows → d ≡ row_of 0 0 0 → k < 30 → BehindUp l k
-    → BehindUp (set l k ((get_or rs k d).pages - 1)) (k + 1)
-up_on d rs l k e z h u =
-    let q = row_behind d rs k e z in
-    let n = u.long in
-    record {
-      long = length-set l k ((get_or rs k d).pages - 1) ∙ n;
-      at = λ j a. by_cases (ℕ_discrete j k)
-          (λ s. ap (λ (i : ℕ). get_or (set l k ((get_or rs k d).pages - 1)) i 0) s ∙ get_or-set_same l k ((get_or rs k d).pages - 1) 0 (omega arith) ∙ q ∙ ap behind (sym s))
-          (λ s. get_or-set_other l k j ((get_or rs k d).pages - 1) 0 s ∙ u.at j (omega arith));
-    }
-
-pub up_done : {l : List ℕ} {k : ℕ} → BehindUp l k → 30 ≤ k → Behinds l
-up_done u h = record { at = λ j a. u.at j (omega arith) }

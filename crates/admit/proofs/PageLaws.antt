@@ -27,7 +27,7 @@ use Rattle.records.proofs.KindLaws.{kind_large}
 use Rattle.records.proofs.WalkLaws.{sound_step}
 use Rattle.records.proofs.AdmitLaws.{admit_fit}
 use Rattle.records.specs.Slots.{slots_clear}
-use Rattle.admit.specs.Pages.{coming, Ready, outcome, Paged, Checked}
+use Rattle.admit.specs.Pages.{coming, Ready, Stuck, Paged, Wrong, Checked}
 use Rattle.admit.proofs.Steps.{ready_none}
 
 -- ---- the answer so far: stray slot bits make it false
@@ -76,9 +76,8 @@ edge_as true false w left due h =
     (ap (step (coming due left)) (sym q), sym (ap slots_of q))
 
 -- page g, whose word and bit were read
-module _ (p : Pool) (g left due w : ℕ) (t ok : Bool) (left' due' x : ℕ) (bound : (i : ℕ) → get_or p.slots i 0 < 2 ^ 64)
-    (we : w ≡ get_or p.words g 0) (te : t ≡ is_set p.bits g) (first : g % 512 ≡ 0 → (left ≡ 0) × (w ≡ 0x40000001))
-    (s : Paged p.slots g left due w t ok left' due' x) where
+module _ (p : Pool) (g left due w : ℕ) (t : Bool) (bound : (i : ℕ) → get_or p.slots i 0 < 2 ^ 64)
+    (we : w ≡ get_or p.words g 0) (te : t ≡ is_set p.bits g) (first : g % 512 ≡ 0 → (left ≡ 0) × (w ≡ 0x40000001)) where
   kind : kind_at p g ≡ kind_of (is_edge g) t w
   unfolding kind_at
   kind = sym (ap₂ (kind_of (is_edge g)) te we)
@@ -87,24 +86,21 @@ module _ (p : Pool) (g left due w : ℕ) (t ok : Bool) (left' due' x : ℕ) (bou
   unfolding is_edge
   as_edge e = first (eqb-true (g % 512) 0 e)
 
-  stepped : step (coming due left) (kind_at p g) ≡ outcome ok (coming due' left')
-  stepped = ap (step (coming due left)) kind ∙ (edge_as (is_edge g) t w left due as_edge).0 ∙ sym s.moves
+  stepped : step (coming due left) (kind_at p g) ≡ step (coming due left) (kind_of false t w)
+  stepped = ap (step (coming due left)) kind ∙ (edge_as (is_edge g) t w left due as_edge).0
 
-  strayed : ok ≡ true → eqb x 0 ≡ clean p g
-  strayed e =
-      s.strays e ∙ ap (slots_clear p.slots g) (sym (ap slots_of kind ∙ (edge_as (is_edge g) t w left due as_edge).1)) ∙ page_clean p g bound
+  pub page_off : Stuck left due w t → (acc n : ℕ) → false ≡ held acc (sound_from p (coming due left) g (suc n))
+  page_off s acc n = sym (ap (held acc) (page_step p (coming due left) g n none (stepped ∙ s.stops) ∙ and-false (clean p g)) ∙ held_false acc)
 
-  page_on : (acc n : ℕ) → ok ≡ true → held (bit_or acc x) (sound_from p (coming due' left') (suc g) n) ≡ held acc (sound_from p (coming due left) g (suc n))
-  unfolding outcome
-  page_on acc n e =
-      held_or acc x (clean p g) (sound_from p (coming due' left') (suc g) n) (strayed e)
-      ∙ ap (held acc) (sym (page_step p (coming due left) g n (some (coming due' left')) (stepped ∙ ap (λ (v : Bool). outcome v (coming due' left')) e)))
+  module _ {left' due' x : ℕ} (s : Paged p.slots g left due w t left' due' x) where
+    strayed : eqb x 0 ≡ clean p g
+    strayed =
+        s.strays ∙ ap (slots_clear p.slots g) (sym (ap slots_of kind ∙ (edge_as (is_edge g) t w left due as_edge).1)) ∙ page_clean p g bound
 
-  page_off : (acc n : ℕ) → ok ≡ false → false ≡ held acc (sound_from p (coming due left) g (suc n))
-  unfolding outcome
-  page_off acc n e =
-      sym (ap (held acc) (page_step p (coming due left) g n none (stepped ∙ ap (λ (v : Bool). outcome v (coming due' left')) e) ∙ and-false (clean p g))
-      ∙ held_false acc)
+    pub page_on : (acc n : ℕ) → held (bit_or acc x) (sound_from p (coming due' left') (suc g) n) ≡ held acc (sound_from p (coming due left) g (suc n))
+    page_on acc n =
+        held_or acc x (clean p g) (sound_from p (coming due' left') (suc g) n) strayed
+        ∙ ap (held acc) (sym (page_step p (coming due left) g n (some (coming due' left')) (stepped ∙ s.moves)))
 
 -- ---- the page bits, read from one word shifted once a page
 
@@ -154,8 +150,7 @@ walked_start p i left due r f =
       says = block_start p i (coming due left);
     }
 
-module _ {p : Pool} {i left due q l d acc bw : ℕ} (h : Walked p i left due q l d acc bw) (lt : q < 64) (bound : (j : ℕ) → get_or p.slots j 0 < 2 ^ 64)
-    {ok : Bool} {l' d' x : ℕ} (s : Paged p.slots (64 * i + q) l d (get_or p.words (64 * i + q) 0) (eqb (bw % 2) 1) ok l' d' x) where
+module _ {p : Pool} {i left due q l d acc bw : ℕ} (h : Walked p i left due q l d acc bw) (lt : q < 64) (bound : (j : ℕ) → get_or p.slots j 0 < 2 ^ 64) where
   bit_was : eqb (bw % 2) 1 ≡ is_set p.bits (64 * i + q)
   bit_was = bit_read p.bits i q bw lt h.bits
 
@@ -163,8 +158,18 @@ module _ {p : Pool} {i left due q l d acc bw : ℕ} (h : Walked p i left due q l
   one_more : (m : ℕ) → held acc (sound_from p (coming d l) (64 * i + q) (suc (64 - (q + 1) + m))) ≡ sound_from p (coming due left) (64 * i) (64 + m)
   one_more m = let r : suc (64 - (q + 1) + m) ≡ 64 - q + m = omega arith in ap (λ (n : ℕ). held acc (sound_from p (coming d l) (64 * i + q) n)) r ∙ h.says m
 
-  pub walked_on : ok ≡ true → Walked p i left due (q + 1) l' d' (bit_or acc x) (bw / 2)
-  walked_on e =
+  pub walked_off : Stuck l d (get_or p.words (64 * i + q) 0) (eqb (bw % 2) 1) → Wrong p i left due
+  walked_off s =
+      record {
+        says =
+            λ m.
+            page_off p (64 * i + q) l d (get_or p.words (64 * i + q) 0) (eqb (bw % 2) 1) bound refl bit_was (λ z. h.first z lt) s acc (64 - (q + 1) + m)
+            ∙ one_more m;
+      }
+
+  pub walked_on : {l' d' x : ℕ} → Paged p.slots (64 * i + q) l d (get_or p.words (64 * i + q) 0) (eqb (bw % 2) 1) l' d' x
+      → Walked p i left due (q + 1) l' d' (bit_or acc x) (bw / 2)
+  walked_on {l'} {d'} {x} s =
       record {
         ready = s.ready;
         bits = bits_next (get_or p.bits i 0) q bw h.bits;
@@ -173,23 +178,17 @@ module _ {p : Pool} {i left due q l d acc bw : ℕ} (h : Walked p i left due q l
             λ m.
             let a : 64 * i + (q + 1) ≡ suc (64 * i + q) = omega arith in
             ap (λ (g : ℕ). held (bit_or acc x) (sound_from p (coming d' l') g (64 - (q + 1) + m))) a
-            ∙ page_on p (64 * i + q) l d (get_or p.words (64 * i + q) 0) (eqb (bw % 2) 1) ok l' d' x bound refl bit_was (λ z. h.first z lt) s acc (64 - (q + 1) + m) e
+            ∙ page_on p (64 * i + q) l d (get_or p.words (64 * i + q) 0) (eqb (bw % 2) 1) bound refl bit_was (λ z. h.first z lt) s acc (64 - (q + 1) + m)
             ∙ one_more m;
       }
 
-  pub walked_off : ok ≡ false → Checked p i left due false 0 0
-  walked_off e =
-      record {
-        says =
-            λ m.
-            page_off p (64 * i + q) l d (get_or p.words (64 * i + q) 0) (eqb (bw % 2) 1) ok l' d' x bound refl bit_was (λ z. h.first z lt) s acc (64 - (q + 1) + m) e
-            ∙ one_more m;
-        ready = ready_none;
-      }
+pub walked_done : {p : Pool} {i left due q l d acc bw : ℕ} → Walked p i left due q l d acc bw → q ≡ 64 → acc ≡ 0 → Checked p i left due l d
+walked_done {p} {i} {left} {due} {q} {l} {d} {acc} {bw} h e z =
+    record { says = λ m. sym (cond_eq acc 0 _ false z) ∙ block_done p i q acc (coming d l) m e ∙ h.says m; ready = h.ready }
 
-pub walked_done : {p : Pool} {i left due q l d acc bw : ℕ} → Walked p i left due q l d acc bw → q ≡ 64 → Checked p i left due (eqb acc 0) l d
-walked_done {p} {i} {left} {due} {q} {l} {d} {acc} {bw} h e =
-    record { says = λ m. block_done p i q acc (coming d l) m e ∙ h.says m; ready = h.ready }
+pub walked_stray : {p : Pool} {i left due q l d acc bw : ℕ} → Walked p i left due q l d acc bw → q ≡ 64 → acc ≢ 0 → Wrong p i left due
+walked_stray {p} {i} {left} {due} {q} {l} {d} {acc} {bw} h e z =
+    record { says = λ m. sym (cond_ne acc 0 (sound_from p (coming d l) (64 * i + 64) m) false z) ∙ block_done p i q acc (coming d l) m e ∙ h.says m }
 
 -- a chunk's page 0 is wrong
 no_edge : (due n : ℕ) (t : Bool) (w : ℕ) → (n ≡ 0 → w ≡ 0x40000001 → ⊥) → step (coming due n) (kind_of true t w) ≡ none
@@ -199,7 +198,7 @@ no_edge due zero false w f = refl
 no_edge due (suc n) true w f = eq_cases (λ (k : Kind). step (coming due (suc n)) k ≡ none) w 0x40000001 (λ a. refl) (λ a. refl)
 no_edge due (suc n) false w f = refl
 
-pub edge_off : (p : Pool) (i left due : ℕ) → i % 8 ≡ 0 → (left ≡ 0 → get_or p.words (64 * i) 0 ≡ 0x40000001 → ⊥) → Checked p i left due false 0 0
+pub edge_off : (p : Pool) (i left due : ℕ) → i % 8 ≡ 0 → (left ≡ 0 → get_or p.words (64 * i) 0 ≡ 0x40000001 → ⊥) → Wrong p i left due
 unfolding kind_at is_edge
 edge_off p i left due z f =
     let e : 64 * i % 512 ≡ 0 = omega arith in
@@ -210,7 +209,6 @@ edge_off p i left due z f =
       says =
           λ m. let r : 64 + m ≡ suc (63 + m) = omega arith in
           sym (ap (sound_from p (coming due left) (64 * i)) r ∙ page_step p (coming due left) (64 * i) (63 + m) none k ∙ and-false (clean p (64 * i)));
-      ready = ready_none;
     }
 
 -- ---- a block of free pages
@@ -222,15 +220,19 @@ pub record Freed (p : Pool) (i q acc : ℕ) : Type 0 where
 pub freed_start : (p : Pool) (i : ℕ) → Freed p i 0 0
 freed_start p i = record { says = block_start p i [] }
 
+-- what a free page leaves due, by whether its word is 0
+abbrev idle_or : Bool → Option (List ℕ)
+idle_or true = some []
+idle_or false = none
+
 -- a free page's word decides whether it goes on, and it has no slots
-free_word : (w : ℕ) → (step [] (kind_of false false w) ≡ outcome (eqb w 0) []) × (slots_of (kind_of false false w) ≡ 0)
-unfolding outcome
+free_word : (w : ℕ) → (step [] (kind_of false false w) ≡ idle_or (eqb w 0)) × (slots_of (kind_of false false w) ≡ 0)
 free_word w =
     by_cases (ℕ_discrete w 0)
     (λ e. let k : kind_of false false w ≡ Free = cond_eq w 0 Free Damaged e in
-    (ap (step []) k ∙ ap (λ (v : Bool). outcome v []) (sym (eq-eqb w 0 e)), ap slots_of k))
+    (ap (step []) k ∙ ap (λ (v : Bool). idle_or v) (sym (eq-eqb w 0 e)), ap slots_of k))
     (λ e. let k : kind_of false false w ≡ Damaged = cond_ne w 0 Free Damaged e in
-    (ap (step []) k ∙ ap (λ (v : Bool). outcome v []) (sym (ne_eqb w 0 e)), ap slots_of k))
+    (ap (step []) k ∙ ap (λ (v : Bool). idle_or v) (sym (ne_eqb w 0 e)), ap slots_of k))
 
 -- a page with the bit 0, not page 0 of its chunk
 module _ (p : Pool) (i q : ℕ) (lt : q < 64) (ne : i % 8 ≢ 0) (zero_bits : get_or p.bits i 0 ≡ 0) (bound : (j : ℕ) → get_or p.slots j 0 < 2 ^ 64) where
@@ -248,12 +250,11 @@ module _ (p : Pool) (i q : ℕ) (lt : q < 64) (ne : i % 8 ≢ 0) (zero_bits : ge
 
   pub freed_on : (acc x w : ℕ) → Freed p i q acc → eqb x 0 ≡ slots_clear p.slots (64 * i + q) 0 → w ≡ get_or p.words (64 * i + q) 0
       → Freed p i (q + 1) (bit_or acc (bit_or x w))
-  unfolding outcome
   freed_on acc x w h c e =
       let (s, k) = free_word (get_or p.words (64 * i + q) 0) in
       let d : eqb x 0 ≡ clean p (64 * i + q) =
       c ∙ ap (slots_clear p.slots (64 * i + q)) (sym (ap slots_of free_kind ∙ k)) ∙ page_clean p (64 * i + q) bound in
-      let t : step [] (kind_at p (64 * i + q)) ≡ outcome (eqb w 0) [] = ap (step []) free_kind ∙ s ∙ ap (λ (v : ℕ). outcome (eqb v 0) []) (sym e) in
+      let t : step [] (kind_at p (64 * i + q)) ≡ idle_or (eqb w 0) = ap (step []) free_kind ∙ s ∙ ap (λ (v : ℕ). idle_or (eqb v 0)) (sym e) in
       record {
         says =
             λ m.
@@ -263,26 +264,37 @@ module _ (p : Pool) (i q : ℕ) (lt : q < 64) (ne : i % 8 ≢ 0) (zero_bits : ge
             ∙ held_or acc (bit_or x w) (eqb w 0 && eqb x 0) (sound_from p [] (suc (64 * i + q)) (64 - (q + 1) + m)) (or_none x w)
             ∙ ap (held acc)
             (go (eqb w 0) (eqb x 0) (λ u. sound_from p u (suc (64 * i + q)) (64 - (q + 1) + m))
-            ∙ ap (λ (v : Bool). v && follow (outcome (eqb w 0) []) (λ u. sound_from p u (suc (64 * i + q)) (64 - (q + 1) + m))) d
-            ∙ sym (page_step p [] (64 * i + q) (64 - (q + 1) + m) (outcome (eqb w 0) []) t))
+            ∙ ap (λ (v : Bool). v && follow (idle_or (eqb w 0)) (λ u. sound_from p u (suc (64 * i + q)) (64 - (q + 1) + m))) d
+            ∙ sym (page_step p [] (64 * i + q) (64 - (q + 1) + m) (idle_or (eqb w 0)) t))
             ∙ ap (λ (j : ℕ). held acc (sound_from p [] (64 * i + q) j)) r ∙ h.says m;
       }
     where
-      go : (a b : Bool) (f : List ℕ → Bool) → (a && b) && f [] ≡ b && follow (outcome a []) f
+      go : (a b : Bool) (f : List ℕ → Bool) → (a && b) && f [] ≡ b && follow (idle_or a) f
       go true true f = refl
       go true false f = refl
       go false true f = refl
       go false false f = refl
 
-pub freed_done : {p : Pool} {i q acc : ℕ} → Freed p i q acc → q ≡ 64 → Checked p i 0 0 (eqb acc 0) 0 0
+pub freed_done : {p : Pool} {i q acc : ℕ} → Freed p i q acc → q ≡ 64 → acc ≡ 0 → Checked p i 0 0 0 0
 unfolding coming
-freed_done {p} {i} {q} {acc} h e = record { says = λ m. block_done p i q acc [] m e ∙ h.says m; ready = ready_none }
+freed_done {p} {i} {q} {acc} h e z = record { says = λ m. sym (cond_eq acc 0 _ false z) ∙ block_done p i q acc [] m e ∙ h.says m; ready = ready_none }
+
+pub freed_wrong : {p : Pool} {i q acc : ℕ} → Freed p i q acc → q ≡ 64 → acc ≢ 0 → Wrong p i 0 0
+unfolding coming
+freed_wrong {p} {i} {q} {acc} h e z =
+    record { says = λ m. sym (cond_ne acc 0 (sound_from p [] (64 * i + 64) m) false z) ∙ block_done p i q acc [] m e ∙ h.says m }
 
 -- between runs the next word is no matter
-pub freed_as : {p : Pool} {i left : ℕ} (due : ℕ) {ok : Bool} {l d : ℕ} → left ≡ 0 → Checked p i 0 0 ok l d → Checked p i left due ok l d
-unfolding coming
-freed_as {p} {i} {left} due {ok} {l} {d} e s =
-    record { says = λ m. s.says m ∙ ap (λ (n : ℕ). sound_from p (coming due n) (64 * i) (64 + m)) (sym e); ready = s.ready }
+module _ (p : Pool) (i left due : ℕ) (e : left ≡ 0) where
+  idle_as : (m : ℕ) → sound_from p (coming 0 0) (64 * i) (64 + m) ≡ sound_from p (coming due left) (64 * i) (64 + m)
+  unfolding coming
+  idle_as m = ap (λ (n : ℕ). sound_from p (coming due n) (64 * i) (64 + m)) (sym e)
+
+  pub checked_as : {l d : ℕ} → Checked p i 0 0 l d → Checked p i left due l d
+  checked_as s = record { says = λ m. s.says m ∙ idle_as m; ready = s.ready }
+
+  pub wrong_as : Wrong p i 0 0 → Wrong p i left due
+  wrong_as s = record { says = λ m. s.says m ∙ idle_as m }
 
 -- ---- all blocks
 
@@ -295,19 +307,20 @@ pub blocks_start : (p : Pool) (n : ℕ) → Blocks p n 0 0 0
 unfolding coming
 blocks_start p n = record { ready = ready_none; says = ap (λ (m : ℕ). sound_from p [] 0 m) (omega arith) }
 
-module _ {p : Pool} {n i left due : ℕ} (h : Blocks p n i left due) (lt : i < n) {ok : Bool} {left' due' : ℕ} (s : Checked p i left due ok left' due') where
-  block_says : (v : Bool) → ok ≡ v → cond v (sound_from p (coming due' left') (64 * (i + 1)) (64 * (n - (i + 1)))) false ≡ sound_from p [] 0 (64 * n)
-  block_says v e =
+module _ {p : Pool} {n i left due : ℕ} (h : Blocks p n i left due) (lt : i < n) where
+  block_more : sound_from p (coming due left) (64 * i) (64 + 64 * (n - (i + 1))) ≡ sound_from p [] 0 (64 * n)
+  block_more = let b : 64 + 64 * (n - (i + 1)) ≡ 64 * (n - i) = omega arith in ap (sound_from p (coming due left) (64 * i)) b ∙ h.says
+
+  pub blocks_on : {left' due' : ℕ} → Checked p i left due left' due' → Blocks p n (i + 1) left' due'
+  blocks_on {left'} {due'} s =
       let a : 64 * (i + 1) ≡ 64 * i + 64 = omega arith in
-      let b : 64 + 64 * (n - (i + 1)) ≡ 64 * (n - i) = omega arith in
-      ap₂ (λ (u : Bool) (g : ℕ). cond u (sound_from p (coming due' left') g (64 * (n - (i + 1)))) false) (sym e) a
-      ∙ s.says (64 * (n - (i + 1))) ∙ ap (sound_from p (coming due left) (64 * i)) b ∙ h.says
+      record {
+        ready = s.ready;
+        says = ap (λ (g : ℕ). sound_from p (coming due' left') g (64 * (n - (i + 1)))) a ∙ s.says (64 * (n - (i + 1))) ∙ block_more;
+      }
 
-  pub blocks_on : ok ≡ true → Blocks p n (i + 1) left' due'
-  blocks_on e = record { ready = s.ready; says = block_says true e }
-
-  pub blocks_off : ok ≡ false → false ≡ sound_from p [] 0 (64 * n)
-  blocks_off e = block_says false e
+  pub blocks_off : Wrong p i left due → false ≡ sound_from p [] 0 (64 * n)
+  blocks_off s = s.says (64 * (n - (i + 1))) ∙ block_more
 
 sound_end : (p : Pool) (left due g : ℕ) → sound_from p (coming due left) g 0 ≡ eqb left 0
 unfolding sound_from coming

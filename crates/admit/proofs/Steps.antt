@@ -1,7 +1,7 @@
 -- One page of the check, with the state as two numbers. Assumes nothing.
 use mathlib.Core.Path.{◌≡◌, refl, sym, ap, ap₂, ◌∙◌, subst}
 use mathlib.Core.Logic.{◌≢◌, by_cases}
-use mathlib.Core.Bool.{Bool, true, false, false≢true}
+use mathlib.Core.Bool.{Bool, true, false}
 use mathlib.Core.Option.{none, some}
 use mathlib.Core.List.{List, [], ◌∷◌}
 use Prim.Native.Nat.{ℕ, zero, suc, ◌+◌, ◌*◌, ◌-◌, ◌≤◌, ◌<◌}
@@ -16,7 +16,7 @@ use Rattle.records.specs.Sound.{step}
 use Rattle.records.proofs.Flags.{cond_eq, cond_ne, eq_cases, lt_cases, le_cases}
 use Rattle.records.proofs.KindLaws.{kind_inner, kind_zero, kind_class, kind_large, kind_no_class, kind_no_large, kind_no_low}
 use Rattle.records.specs.Slots.{slots_clear}
-use Rattle.admit.specs.Pages.{next_word, coming, Ready, outcome, Paged}
+use Rattle.admit.specs.Pages.{next_word, coming, Ready, Stuck, Paged}
 
 -- ---- the words to come
 
@@ -84,39 +84,29 @@ idle_none w n m =
     (λ d. by_cases (dec_lt w 0x40000200) (λ e. absurd (m d e)) (λ e. ap (step []) (kind_no_large w (omega arith) (omega arith))))
     (λ d. by_cases (ℕ_discrete w 0) (λ e. ap (step []) (kind_zero w e)) (λ e. ap (step []) (kind_no_low w e (omega arith))))))
 
--- what the code's refusal says
-module _ (ss : List ℕ) (g left due w : ℕ) (ok : Bool) (left' due' x : ℕ) (bad : (ok ≡ false) × (left' ≡ 0) × (due' ≡ 0)) where
-  no : (t : Bool) → step (coming due left) (kind_of false t w) ≡ none → Paged ss g left due w t ok left' due' x
-  unfolding outcome
-  no t e =
-      record {
-        moves = ap (λ (v : Bool). outcome v (coming due' left')) bad.0 ∙ sym e;
-        strays = λ h. absurd (false≢true (sym bad.0 ∙ h));
-        ready = rw (bad.1, bad.2) ready_none;
-      }
-
-  inside : (t : Bool) → ((xs : List ℕ) → step (due ∷ xs) (kind_of false t w) ≡ none) → left ≢ 0 → Paged ss g left due w t ok left' due' x
+module _ (left due w : ℕ) where
+  inside : (t : Bool) → ((xs : List ℕ) → step (due ∷ xs) (kind_of false t w) ≡ none) → left ≢ 0 → Stuck left due w t
   unfolding coming
-  inside t f l = no t (go left l)
+  inside t f l = record { stops = go left l }
     where
       go : (n : ℕ) → n ≢ 0 → step (coming due n) (kind_of false t w) ≡ none
       go zero l = absurd (l refl)
       go (suc n) l = f (coming (next_word due) n)
 
-  between : (t : Bool) → step [] (kind_of false t w) ≡ none → left ≡ 0 → Paged ss g left due w t ok left' due' x
+  between : (t : Bool) → step [] (kind_of false t w) ≡ none → left ≡ 0 → Stuck left due w t
   unfolding coming
-  between t e l = no t (ap (λ (n : ℕ). step (coming due n) (kind_of false t w)) l ∙ e)
+  between t e l = record { stops = ap (λ (n : ℕ). step (coming due n) (kind_of false t w)) l ∙ e }
 
-  pub no_free_run : left ≢ 0 → Paged ss g left due w false ok left' due' x
+  pub no_free_run : left ≢ 0 → Stuck left due w false
   no_free_run = inside false (λ xs. run_free due xs w)
 
-  pub no_inner : left ≢ 0 → w ≢ due → Paged ss g left due w true ok left' due' x
+  pub no_inner : left ≢ 0 → w ≢ due → Stuck left due w true
   no_inner l h = inside true (λ xs. run_other due xs w (λ e. h (sym e))) l
 
-  pub no_free_word : left ≡ 0 → w ≢ 0 → Paged ss g left due w false ok left' due' x
+  pub no_free_word : left ≡ 0 → w ≢ 0 → Stuck left due w false
   no_free_word l h = between false (idle_free_bad w h) l
 
-  pub no_run : left ≡ 0 → (0x80000000 ≤ w → w < 0x8000001E → ⊥) → (0x40000001 ≤ w → w < 0x40000200 → ⊥) → Paged ss g left due w true ok left' due' x
+  pub no_run : left ≡ 0 → (0x80000000 ≤ w → w < 0x8000001E → ⊥) → (0x40000001 ≤ w → w < 0x40000200 → ⊥) → Stuck left due w true
   no_run l n m = between true (idle_none w n m) l
 
 -- ---- pages that fit
@@ -124,21 +114,21 @@ module _ (ss : List ℕ) (g left due w : ℕ) (ok : Bool) (left' due' x : ℕ) (
 module _ (ss : List ℕ) (g left due w : ℕ) (x : ℕ) where
   -- a page between runs, of the kind k, which leaves n pages to come with the word d first
   begun : (t : Bool) (k : Kind) (n d : ℕ) → left ≡ 0 → kind_of false t w ≡ k → step [] k ≡ some (coming d n) → eqb x 0 ≡ slots_clear ss g (slots_of k)
-      → Ready n d → Paged ss g left due w t true n d x
-  unfolding outcome coming
+      → Ready n d → Paged ss g left due w t n d x
+  unfolding coming
   begun t k n d l e s c r =
       record {
-        moves = sym (ap₂ (λ (m : ℕ) (q : Kind). step (coming due m) q) l e ∙ s);
-        strays = λ h. c ∙ ap (λ (q : Kind). slots_clear ss g (slots_of q)) (sym e);
+        moves = ap₂ (λ (m : ℕ) (q : Kind). step (coming due m) q) l e ∙ s;
+        strays = c ∙ ap (λ (q : Kind). slots_clear ss g (slots_of q)) (sym e);
         ready = r;
       }
 
-  pub is_free : left ≡ 0 → w ≡ 0 → eqb x 0 ≡ slots_clear ss g 0 → Paged ss g left due w false true 0 0 x
+  pub is_free : left ≡ 0 → w ≡ 0 → eqb x 0 ≡ slots_clear ss g 0 → Paged ss g left due w false 0 0 x
   unfolding coming
   is_free l e c = begun false Free 0 0 l (cond_eq w 0 Free Damaged e) refl c ready_none
 
   pub is_class : (rest : ℕ) → left ≡ 0 → 0x80000000 ≤ w → w < 0x8000001E → rest ≡ behind (w - 0x80000000)
-      → eqb x 0 ≡ slots_clear ss g (slots_of (Class (w - 0x80000000))) → Paged ss g left due w true true rest (w + 0x40010000) x
+      → eqb x 0 ≡ slots_clear ss g (slots_of (Class (w - 0x80000000))) → Paged ss g left due w true rest (w + 0x40010000) x
   unfolding behind
   is_class rest l a b e c =
       let q : 0xC0000000 + 65536 * 1 + (w - 0x80000000) ≡ w + 0x40010000 = omega arith in
@@ -147,18 +137,18 @@ module _ (ss : List ℕ) (g left due w : ℕ) (x : ℕ) where
       (ap some (coming_words (w - 0x80000000) 1 (behind (w - 0x80000000)) ∙ ap₂ coming q (sym e))) c
       (record { near = omega arith; inner = λ m. omega arith })
 
-  pub is_large : left ≡ 0 → 0x40000001 ≤ w → w < 0x40000200 → eqb x 0 ≡ slots_clear ss g 0 → Paged ss g left due w true true (w - 0x40000001) 0 x
+  pub is_large : left ≡ 0 → 0x40000001 ≤ w → w < 0x40000200 → eqb x 0 ≡ slots_clear ss g 0 → Paged ss g left due w true (w - 0x40000001) 0 x
   is_large l a b c =
       begun true _ (w - 0x40000001) 0 l (kind_large w a b) (ap some (coming_zeros (w - 0x40000001))) c
       (record { near = omega arith; inner = λ m. absurd (m refl) })
 
-  pub is_inner_lem : (d : ℕ) → Ready left due → left ≢ 0 → w ≡ due → eqb x 0 ≡ slots_clear ss g 0 → d ≡ next_word due → Paged ss g left due w true true (left - 1) d x
-  unfolding outcome coming
+  pub is_inner_lem : (d : ℕ) → Ready left due → left ≢ 0 → w ≡ due → eqb x 0 ≡ slots_clear ss g 0 → d ≡ next_word due → Paged ss g left due w true (left - 1) d x
+  unfolding coming
   is_inner_lem d r l e c f =
       let k : kind_of false true w ≡ Inner due = ap (kind_of false true) e ∙ inner_kind left due r in
       record {
-        moves = sym (ap (step (coming due left)) k ∙ go left l);
-        strays = λ h. c ∙ ap (λ (q : Kind). slots_clear ss g (slots_of q)) (sym k);
+        moves = ap (step (coming due left)) k ∙ go left l;
+        strays = c ∙ ap (λ (q : Kind). slots_clear ss g (slots_of q)) (sym k);
         ready = ready_after left due d r l f;
       }
     where
@@ -167,6 +157,9 @@ module _ (ss : List ℕ) (g left due w : ℕ) (x : ℕ) where
       go (suc n) l = let r : suc n - 1 ≡ n = omega arith in rw r (cond_eq due due _ _ refl ∙ ap (λ (y : ℕ). some (coming y n)) (sym f))
 
 -- the bit, as it was tested
-pub bit_is : {ss : List ℕ} {g left due w : ℕ} {t v ok : Bool} {left' due' x : ℕ} → t ≡ v → Paged ss g left due w v ok left' due' x
-    → Paged ss g left due w t ok left' due' x
-bit_is {ss} {g} {left} {due} {w} {t} {v} {ok} {left'} {due'} {x} e p = subst (λ (u : Bool). Paged ss g left due w u ok left' due' x) (sym e) p
+pub stuck_is : {left due w : ℕ} {t v : Bool} → t ≡ v → Stuck left due w v → Stuck left due w t
+stuck_is {left} {due} {w} e s = subst (λ (u : Bool). Stuck left due w u) (sym e) s
+
+pub paged_is : {ss : List ℕ} {g left due w : ℕ} {t v : Bool} {left' due' x : ℕ} → t ≡ v → Paged ss g left due w v left' due' x
+    → Paged ss g left due w t left' due' x
+paged_is {ss} {g} {left} {due} {w} {t} {v} {left'} {due'} {x} e p = subst (λ (u : Bool). Paged ss g left due w u left' due' x) (sym e) p

@@ -1,6 +1,6 @@
 -- The check's state between pages as two numbers, and what it finds at one page and at 64. Assumes nothing.
-use Rattle.std.specs.Prelude.{◌≡◌, ◌≢◌, Bool, true, false, cond, List, [], ◌∷◌, ℕ, zero, suc, ◌+◌, ◌*◌, ◌<◌, ◌≤◌, eqb, length, get_or}
-use Rattle.std.proofs.Math.Option.{Option, none, some}
+use Rattle.std.specs.Prelude.{◌≡◌, ◌≢◌, Bool, false, cond, List, [], ◌∷◌, ℕ, zero, suc, ◌+◌, ◌*◌, ◌<◌, ◌≤◌, eqb, length, get_or}
+use Rattle.std.proofs.Math.Option.{none, some}
 use Rattle.admit.specs.Masks.{mask_table}
 use Rattle.records.specs.Kinds.{kind_of, behind, slots_of}
 use Rattle.records.specs.Pool.{Pool}
@@ -34,18 +34,21 @@ pub record Ready (left due : ℕ) : Type 0 where
   pub near : due + 65536 * left < 4294967296
   pub inner : due ≢ 0 → 0xC0000000 ≤ due
 
--- what a step that is right or not leaves due
-unfoldable pub outcome : Bool → List ℕ → Option (List ℕ)
-outcome true st = some st
-outcome false st = none
+-- a page that is not page 0 of its chunk, with the word w and the bit t, does not go on
+pub record Stuck (left due w : ℕ) (t : Bool) : Type 0 where
+  pub stops : step (coming due left) (kind_of false t w) ≡ none
 
--- a page that is not page 0 of its chunk, with the word w and the bit t: whether it goes on, and how; x is 0 when its slot bits are right
-pub record Paged (ss : List ℕ) (g left due w : ℕ) (t ok : Bool) (left' due' x : ℕ) : Type 0 where
-  pub moves : outcome ok (coming due' left') ≡ step (coming due left) (kind_of false t w)
-  pub strays : ok ≡ true → eqb x 0 ≡ slots_clear ss g (slots_of (kind_of false t w))
+-- it goes on so; x is 0 when its slot bits are right
+pub record Paged (ss : List ℕ) (g left due w : ℕ) (t : Bool) (left' due' x : ℕ) : Type 0 where
+  pub moves : step (coming due left) (kind_of false t w) ≡ some (coming due' left')
+  pub strays : eqb x 0 ≡ slots_clear ss g (slots_of (kind_of false t w))
   pub ready : Ready left' due'
 
--- the 64 pages of page-bit word i, whatever comes behind them
-pub record Checked (p : Pool) (i left due : ℕ) (ok : Bool) (left' due' : ℕ) : Type 0 where
-  pub says : (m : ℕ) → cond ok (sound_from p (coming due' left') (64 * i + 64) m) false ≡ sound_from p (coming due left) (64 * i) (64 + m)
+-- the 64 pages of page-bit word i are wrong, whatever comes behind them
+pub record Wrong (p : Pool) (i left due : ℕ) : Type 0 where
+  pub says : (m : ℕ) → false ≡ sound_from p (coming due left) (64 * i) (64 + m)
+
+-- they are right, and what comes behind them goes on so
+pub record Checked (p : Pool) (i left due left' due' : ℕ) : Type 0 where
+  pub says : (m : ℕ) → sound_from p (coming due' left') (64 * i + 64) m ≡ sound_from p (coming due left) (64 * i) (64 + m)
   pub ready : Ready left' due'

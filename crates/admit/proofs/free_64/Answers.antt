@@ -1,18 +1,17 @@
 -- `admit::free_64` meets its contract. Assumes nothing.
-use native.Mathlib.Omega.{arith}
-use Rattle.admit.proofs.PageLaws.{freed_start, freed_on, freed_done}
+use Rattle.std.proofs.Common.{arith}
+use borrow.Author.Tests.{eqb-true, eqb-false}
+use Rattle.admit.proofs.PageLaws.{freed_on, freed_done, freed_wrong}
 use Rattle.admit.proofs.free_64.Goals as goal
-
-pub loop-p-init : goal.loop-p-init
-loop-p-init c = (omega arith, freed_start _ _)
 
 pub loop-p-preserved : goal.loop-p-preserved
 loop-p-preserved c =
-    let low = c.requires.low in let mid = c.requires.mid in let zero = c.requires.zero in let word = c.requires.word in let slot = c.requires.slot in (
-      omega arith,
-      freed_on _ _ _ (omega arith) mid zero (λ j. (c.type_inv.slots j).fits) _
-          c.any_slot-x.result _ c.loop-p.invariant.1 c.any_slot-x.ensures c.wide32-w.ensures,
-    )
+    let r = c.requires in
+    freed_on _ _ _ (omega arith) r.mid r.zero (λ j. (c.type_inv.slots j).fits) _ c.any_slot-x.result _ c.loop-p.invariant c.any_slot-x.ensures
+    c.from-w.ensures
 
-pub returns : goal.returns
-returns c = freed_done c.loop-p.invariant.1 (omega arith)
+pub returns-clause-yes : goal.returns-clause-yes
+returns-clause-yes c = λ e. freed_done c.loop-p.invariant (omega arith) (eqb-true _ _ e)
+
+pub returns-clause-no : goal.returns-clause-no
+returns-clause-no c = λ e. freed_wrong c.loop-p.invariant (omega arith) (eqb-false _ _ e)

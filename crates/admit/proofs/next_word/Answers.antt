@@ -5,5 +5,5 @@ use Rattle.admit.proofs.next_word.Goals as goal
 pub returns-then-due-eq0 : goal.returns-then-due-eq0
 returns-then-due-eq0 c = after_zero _ c.if-due-eq0.true
 
-pub returns : goal.returns
-returns c = after_more _ c.if-due-eq0.false
+pub returns-else-due-eq0 : goal.returns-else-due-eq0
+returns-else-due-eq0 c = after_more _ c.if-due-eq0.false
