@@ -139,17 +139,6 @@ block_done p i q acc st m e =
     let a : 64 * i + 64 ≡ 64 * i + q = omega arith in let b : m ≡ 64 - q + m = omega arith in
     ap₂ (λ (g n : ℕ). held acc (sound_from p st g n)) a b
 
-pub walked_start : (p : Pool) (i left due : ℕ) → Ready left due → (i % 8 ≡ 0 → (left ≡ 0) × (get_or p.words (64 * i) 0 ≡ 0x40000001))
-    → Walked p i left due 0 left due 0 (get_or p.bits i 0)
-walked_start p i left due r f =
-    let e : 64 * i + 0 ≡ 64 * i = omega arith in
-    record {
-      ready = r;
-      bits = sym (div-one (get_or p.bits i 0));
-      first = λ z h. rw e (f (edge_word_lem i 0 z h));
-      says = block_start p i (coming due left);
-    }
-
 module _ {p : Pool} {i left due q l d acc bw : ℕ} (h : Walked p i left due q l d acc bw) (lt : q < 64) (bound : (j : ℕ) → get_or p.slots j 0 < 2 ^ 64) where
   bit_was : eqb (bw % 2) 1 ≡ is_set p.bits (64 * i + q)
   bit_was = bit_read p.bits i q bw lt h.bits
@@ -182,14 +171,6 @@ module _ {p : Pool} {i left due q l d acc bw : ℕ} (h : Walked p i left due q l
             ∙ one_more m;
       }
 
-pub walked_done : {p : Pool} {i left due q l d acc bw : ℕ} → Walked p i left due q l d acc bw → q ≡ 64 → acc ≡ 0 → Checked p i left due l d
-walked_done {p} {i} {left} {due} {q} {l} {d} {acc} {bw} h e z =
-    record { says = λ m. sym (cond_eq acc 0 _ false z) ∙ block_done p i q acc (coming d l) m e ∙ h.says m; ready = h.ready }
-
-pub walked_stray : {p : Pool} {i left due q l d acc bw : ℕ} → Walked p i left due q l d acc bw → q ≡ 64 → acc ≢ 0 → Wrong p i left due
-walked_stray {p} {i} {left} {due} {q} {l} {d} {acc} {bw} h e z =
-    record { says = λ m. sym (cond_ne acc 0 (sound_from p (coming d l) (64 * i + 64) m) false z) ∙ block_done p i q acc (coming d l) m e ∙ h.says m }
-
 -- a chunk's page 0 is wrong
 no_edge : (due n : ℕ) (t : Bool) (w : ℕ) → (n ≡ 0 → w ≡ 0x40000001 → ⊥) → step (coming due n) (kind_of true t w) ≡ none
 unfolding coming
@@ -216,9 +197,6 @@ edge_off p i left due z f =
 -- q pages of block i are behind
 pub record Freed (p : Pool) (i q acc : ℕ) : Type 0 where
   pub says : (m : ℕ) → held acc (sound_from p [] (64 * i + q) (64 - q + m)) ≡ sound_from p [] (64 * i) (64 + m)
-
-pub freed_start : (p : Pool) (i : ℕ) → Freed p i 0 0
-freed_start p i = record { says = block_start p i [] }
 
 -- what a free page leaves due, by whether its word is 0
 abbrev idle_or : Bool → Option (List ℕ)
@@ -310,14 +288,6 @@ blocks_start p n = record { ready = ready_none; says = ap (λ (m : ℕ). sound_f
 module _ {p : Pool} {n i left due : ℕ} (h : Blocks p n i left due) (lt : i < n) where
   block_more : sound_from p (coming due left) (64 * i) (64 + 64 * (n - (i + 1))) ≡ sound_from p [] 0 (64 * n)
   block_more = let b : 64 + 64 * (n - (i + 1)) ≡ 64 * (n - i) = omega arith in ap (sound_from p (coming due left) (64 * i)) b ∙ h.says
-
-  pub blocks_on : {left' due' : ℕ} → Checked p i left due left' due' → Blocks p n (i + 1) left' due'
-  blocks_on {left'} {due'} s =
-      let a : 64 * (i + 1) ≡ 64 * i + 64 = omega arith in
-      record {
-        ready = s.ready;
-        says = ap (λ (g : ℕ). sound_from p (coming due' left') g (64 * (n - (i + 1)))) a ∙ s.says (64 * (n - (i + 1))) ∙ block_more;
-      }
 
   pub blocks_off : Wrong p i left due → false ≡ sound_from p [] 0 (64 * n)
   blocks_off s = s.says (64 * (n - (i + 1))) ∙ block_more

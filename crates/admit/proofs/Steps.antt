@@ -103,9 +103,6 @@ module _ (left due w : ℕ) where
   pub no_inner : left ≢ 0 → w ≢ due → Stuck left due w true
   no_inner l h = inside true (λ xs. run_other due xs w (λ e. h (sym e))) l
 
-  pub no_free_word : left ≡ 0 → w ≢ 0 → Stuck left due w false
-  no_free_word l h = between false (idle_free_bad w h) l
-
   pub no_run : left ≡ 0 → (0x80000000 ≤ w → w < 0x8000001E → ⊥) → (0x40000001 ≤ w → w < 0x40000200 → ⊥) → Stuck left due w true
   no_run l n m = between true (idle_none w n m) l
 

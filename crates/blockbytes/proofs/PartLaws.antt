@@ -3,18 +3,18 @@ use mathlib.Core.Path.{◌≡◌, refl, sym, ap, ap₂, ◌∙◌, subst}
 use mathlib.Core.Logic.{◌≢◌, by_cases}
 use mathlib.Core.Bool.{Bool, true, false, cond, ◌&&◌}
 use mathlib.Core.List.{List}
-use Prim.Native.Nat.{ℕ, zero, suc, ◌+◌, ◌-◌, ◌*◌, ◌/◌, ◌%◌, ◌≤◌, ◌<◌}
+use Prim.Native.Nat.{ℕ, zero, suc, ◌+◌, ◌-◌, ◌*◌, ◌≤◌, ◌<◌}
 use native.Mathlib.Nat.{add-sub_cancel_left}
 use native.Mathlib.Decide.{ℕ_discrete}
 use native.Mathlib.Omega.{arith}
 use lib.Dec.{eqb, leb}
 use lib.ListN.{length, take, drop, length-drop}
 use lib.Seq.{length-take-le}
-use borrow.Author.Tests.{eq-eqb, ne_eqb, eqb-true, le-leb, lt-leb}
+use borrow.Author.Tests.{eqb-true, le-leb, lt-leb}
 use Rattle.refusals.specs.Refusals.{unless, shape}
 use Rattle.records.specs.Pool.{Pool}
 use Rattle.records.specs.Calls.{admit_of}
-use Rattle.records.proofs.Flags.{flag_eq, eq_cases, cond_eq, cond_ne, and_right}
+use Rattle.records.proofs.Flags.{eq_cases, cond_eq, cond_ne, and_right}
 use Rattle.release.specs.declared.Sized.{Sized}
 use Rattle.release.specs.Release.{spot, sized, size_at, size_of}
 use Rattle.release.proofs.MeanLaws.{size_inside}
@@ -22,16 +22,6 @@ use Rattle.blockbytes.specs.declared.Part.{Part}
 use Rattle.blockbytes.specs.Bytes.{chosen, ear_fits, part, part_at, part_of, bytes_of, bytes_refusal_of}
 
 -- ---- the chosen arena
-
-pub chunks_none : (c n : ℕ) → n % 2097152 ≢ 0 → false ≡ eqb n (2097152 * c)
-chunks_none c n z = sym (ne_eqb n (2097152 * c) (λ h. omega arith))
-
--- n bytes that are k whole chunks
-pub chunks_as : (c n k : ℕ) → n % 2097152 ≡ 0 → k ≡ n / 2097152 → eqb k c ≡ eqb n (2097152 * c)
-chunks_as c n k z e =
-    flag_eq (eqb k c) (eqb n (2097152 * c))
-    (λ t. let h = eqb-true k c t in eq-eqb n (2097152 * c) (omega arith))
-    (λ t. let h = eqb-true n (2097152 * c) t in eq-eqb k c (omega arith))
 
 module _ (ear c nleft nright : ℕ) where
   pub fits_left : {v : Bool} → ear ≡ 0 → v ≡ eqb nleft (2097152 * c) → v ≡ ear_fits ear c (chosen ear nleft nright)

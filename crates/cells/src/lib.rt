@@ -4,14 +4,14 @@
 ghost use Rattle.std.specs.Prelude.{◌≡◌, ◌+◌, ◌*◌, ◌≤◌, ◌<◌, length};
 ghost use Rattle.bitrow.specs.Row.{count_bits};
 ghost use Rattle.classes.specs.Classes.{slots};
-ghost use Rattle.records.specs.Read.{pool_of};
+ghost use Rattle.records.specs.Shown.{pool_of};
 ghost use Rattle.cells.specs.Cells.{cell, tenths, mark_of, run_cell, goes_on, cell_at};
 ghost use Rattle.cells.specs.Means.{CellsMean};
 
 use records::Records;
 
 // What a page shows: its character, the letter of its fill, 1 where it goes on with the cell before, how full it is in tenths, its
-// label, 0 for none. The 1 and the label are numbers of the drawing: the one moves and widens a box, the other is written where it is not 0.
+// label, 0 for none. The drawing reckons with both numbers: `joined` moves and widens a box, and the label is written where it is not 0.
 #[derive(Clone, Copy)]
 pub struct Cell {
     pub mark: u8,

@@ -5,7 +5,7 @@ ghost use Rattle.std.specs.Prelude.{◌≡◌, [], ◌∷◌, ◌+◌, ◌*◌, 
 ghost use Rattle.std.proofs.lemmas.List.Edits.{sets};
 ghost use Rattle.records.specs.declared.Kind.TheVariants.{Class};
 ghost use Rattle.records.specs.Kinds.{slots_of};
-ghost use Rattle.records.specs.Read.{pool_of};
+ghost use Rattle.records.specs.Shown.{pool_of};
 ghost use Rattle.records.specs.Calls.{leaves};
 ghost use Rattle.blocks.specs.Blocks.{block, page_blocks, live};
 ghost use Rattle.census.specs.Census.{words_for, list};

@@ -1,4 +1,4 @@
--- Buffers that are written from their start. Assumes nothing.
+-- Buffers in which one value stands at every m-th place and another at the others. Assumes nothing.
 use Rattle.std.specs.Prelude.{cond, List, map, ℕ, ◌%◌, eqb}
 use Rattle.std.specs.List.{range_with_len}
 

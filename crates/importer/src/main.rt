@@ -4,7 +4,7 @@
 
 ghost use Rattle.std.specs.Prelude.{◌≡◌, length};
 
-// A room of N bytes. Written out in `main`, an array as long as these takes the prover minutes.
+// A room of N bytes. Written out in `main` itself, arrays as long as those of `main` take the prover minutes.
 fn room<const N: usize>() -> [u8; N]
     ensures { N ≡ length result }
 {

@@ -4,7 +4,7 @@
 ghost use Rattle.std.specs.Prelude.{◌≡◌, ◌*◌, ◌/◌, ◌<◌};
 ghost use Rattle.classes.specs.Classes.{size};
 ghost use Rattle.records.specs.Pool.{kind_at, slot_at};
-ghost use Rattle.records.specs.Read.{pool_of};
+ghost use Rattle.records.specs.Shown.{pool_of};
 ghost use Rattle.blocks.specs.Blocks.{live};
 ghost use Rattle.next.specs.Next.{first_from, answer_of};
 ghost use Rattle.next.specs.Walk.{head, blocks_from, Least, Started};

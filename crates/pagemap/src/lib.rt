@@ -2,7 +2,7 @@
 #![tactic(auto)]
 
 ghost use Rattle.std.specs.Prelude.{◌≡◌, true, false, ◌+◌, ◌*◌, ◌≤◌, ◌<◌, length, take};
-ghost use Rattle.records.specs.Read.{pool_of};
+ghost use Rattle.records.specs.Shown.{pool_of};
 ghost use Rattle.records.specs.Lent.{before};
 ghost use Rattle.records.specs.Calls.{leaves};
 ghost use Rattle.text.specs.Text.{Appends};
@@ -14,7 +14,7 @@ use records::Records;
 use refusals::SHORT_ROOM;
 use text::put_filled;
 
-// What a drawing is made as.
+// The form of a drawing.
 #[derive(Clone, Copy)]
 pub enum Form {
     Text,

@@ -1,5 +1,6 @@
 // Replays the log on standard input and writes an SVG picture of the pool after it to standard output.
-// The program mapper is its twin: room, call and message differ, so that a function for both would leave each no shorter.
+// The program mapper is its twin. One function for both would take the size, the message and a closure that is lent three slices and the buffer,
+// and its contract would say when that may be called: no plainer than these lines.
 #![tactic(auto)]
 
 fn main(rt: HostRuntime) {

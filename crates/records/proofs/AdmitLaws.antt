@@ -43,13 +43,6 @@ module _ (c nbits nwords nslots : ℕ) where
       (and_made (eqb nbits (8 * c)) _ (eq-eqb nbits (8 * c) s.bits_long)
       (and_made (eqb nwords (512 * c)) _ (eq-eqb nwords (512 * c) s.words_long) (eq-eqb nslots (4096 * c) s.slots_long)))))
 
-  pub not_shaped : (Lengths c nbits nwords nslots → ⊥) → false ≡ shaped c nbits nwords nslots
-  not_shaped n = go (shaped c nbits nwords nslots) refl
-    where
-      go : (v : Bool) → shaped c nbits nwords nslots ≡ v → false ≡ v
-      go true e = absurd (n (shaped_lengths e))
-      go false e = refl
-
 abbrev pub Shape : ℕ → Pool → Type 0
 Shape c p = Lengths c (length p.bits) (length p.words) (length p.slots)
 

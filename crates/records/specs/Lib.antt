@@ -5,4 +5,4 @@ pub mod Sound
 pub mod Slots
 pub mod Calls
 pub mod Runs
-pub mod Read
+pub mod Shown

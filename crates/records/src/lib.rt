@@ -82,7 +82,7 @@ pub struct Records<'a> {
 }
 
 impl Records<'_> {
-    ghost use Rattle.records.specs.Read.{pool_of};
+    ghost use Rattle.records.specs.Shown.{pool_of};
 
     // The word of page g.
     fn word(&self, g: usize) -> u32

@@ -5,7 +5,7 @@ ghost use Rattle.std.specs.Prelude.{◌≡◌, ◌+◌, ◌*◌, ◌<◌, ◌≤
 ghost use Rattle.classes.specs.Classes.{size};
 ghost use Rattle.records.specs.declared.Kind.TheVariants.{Class};
 ghost use Rattle.records.specs.Kinds.{slots_of};
-ghost use Rattle.records.specs.Read.{pool_of};
+ghost use Rattle.records.specs.Shown.{pool_of};
 ghost use Rattle.records.specs.Lent.{lent, before, after};
 ghost use Rattle.records.specs.Calls.{admit_of, leaves};
 ghost use Rattle.release.specs.Release.{slot_spot, spot, released, give_back, give, size_at};
@@ -61,7 +61,7 @@ fn slot_spot(slots: &[u64], g: usize, b: usize, off: usize, bytes: usize, count:
     }
 }
 
-// What the place q lies in, if a block or slot can start there.
+// The run that the place q lies in; a large run is told at its first byte only.
 fn area_at(pool: &Records, q: u64) -> Option<Area>
     ensures { Leads pool.now.chunks (pool_of pool.now) q result }
 {

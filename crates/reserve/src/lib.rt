@@ -4,7 +4,7 @@
 ghost use Rattle.std.specs.Prelude.{◌≡◌, ◌+◌, ◌-◌, ◌*◌, ◌<◌, ◌≤◌, length};
 ghost use Rattle.records.specs.declared.Kind.TheVariants.{Class};
 ghost use Rattle.records.specs.Kinds.{slots_of};
-ghost use Rattle.records.specs.Read.{pool_of};
+ghost use Rattle.records.specs.Shown.{pool_of};
 ghost use Rattle.records.specs.Lent.{lent, before, after};
 ghost use Rattle.records.specs.Calls.{admit_of, leaves};
 ghost use Rattle.reserve.specs.Reserve.{lowest_free, has_slot, slot_page, plan_slot, plan_class, plan_run, pages_for, plan_large, plan, is_full, ready, perform, slot_given, answer, serve, refused};

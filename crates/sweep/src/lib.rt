@@ -4,7 +4,7 @@
 
 ghost use Rattle.std.specs.Prelude.{◌≡◌, suc, ◌+◌, ◌*◌, ◌<◌, ◌≤◌, length};
 ghost use Rattle.bitrow.specs.Row.{digit};
-ghost use Rattle.records.specs.Read.{pool_of};
+ghost use Rattle.records.specs.Shown.{pool_of};
 ghost use Rattle.records.specs.Lent.{lent, before, after};
 ghost use Rattle.records.specs.Sound.{idle};
 ghost use Rattle.records.specs.Calls.{admit_of, leaves};

@@ -3,7 +3,7 @@
 
 ghost use Rattle.std.specs.Prelude.{◌≡◌, ◌*◌, ◌<◌, length};
 ghost use Rattle.classes.specs.Classes.{rows};
-ghost use Rattle.records.specs.Read.{pool_of};
+ghost use Rattle.records.specs.Shown.{pool_of};
 ghost use Rattle.blocks.specs.Blocks.{page_blocks, live};
 ghost use Rattle.totals.specs.Totals.{amount_of, summed};
 

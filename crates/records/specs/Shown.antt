@@ -1,4 +1,4 @@
--- The pool that records show which are lent to be read. Assumes nothing.
+-- The pool that lent records show. Assumes nothing.
 use Rattle.records.specs.declared.Records.{Records}
 use Rattle.records.specs.Pool.{Pool}
 use Rattle.records.specs.Lent.{lent}
