@@ -1,6 +1,5 @@
 -- What starts at a page, and the slot of a place. Assumes nothing.
 use mathlib.Core.Path.{◌≡◌, refl, sym, ap, ◌∙◌, subst}
-use mathlib.Core.Logic.{◌≢◌}
 use mathlib.Core.Bool.{Bool, true}
 use mathlib.Core.List.{List, ◌++◌}
 use Rattle.std.specs.Prelude.{Option, Some, None}
@@ -28,9 +27,6 @@ use Rattle.next.proofs.StartLaws.{least}
 
 pub slot_of : (b off : ℕ) {s z : ℕ} {r : Row} → r ≡ row_at b → z ≡ r.size → b < 30 → s ≡ (off + (z - 1)) / z → Least (size b) off s
 slot_of b off {s} {z} e f l h = subst (λ (x : ℕ). Least x off s) (size_read b e f) (least z off s (cut_some e f l) h)
-
-pub slot_below : {t n : ℕ} → t ≤ n → t ≢ n → t < n
-slot_below l d = omega arith
 
 -- ---- the first block of a page, in the arm of a match that tells its kind
 
@@ -62,44 +58,36 @@ module _ (p : Pool) (g s : ℕ) where
     abbrev slot : ℕ → List Block
     slot i = when (slot_at p g i) (slot_block g b i)
 
-    none_from : (t : ℕ) → n ≤ t → None ≡ head (flat slot t (slots b - t))
-    unfolding head
-    none_from t l = let u = k.slots_is in ap head (sym (flat_over slot t (slots b - t) (omega arith)))
-
     -- no slot is left
     pub over_first : n ≤ s → FirstIn None
-    over_first l = by_kind e (none_from s l)
+    unfolding head
+    over_first l = let u = k.slots_is in by_kind e (ap head (sym (flat_over slot s (slots b - s) (omega arith))))
 
     module _ (l : s < n) {x : ℕ} (w : x ≡ next_bit 1 p.slots (512 * g + s) (512 * g + n - (512 * g + s))) where
       passed : First p.slots (512 * g + s) (512 * g + n) 1 x
       passed = first_at p.slots (512 * g + s) (512 * g + n) 1 x (omega arith) (omega arith) w
 
-      pub first_low : (512 * g ≤ x) × (x - 512 * g ≤ n)
-      first_low = let a = passed.low in let b = passed.high in (omega arith, omega arith)
-
       -- free slots are passed
-      dropped : head (flat slot s (slots b - s)) ≡ head (flat slot (x - 512 * g) (slots b - (x - 512 * g)))
+      dropped : flat slot s (slots b - s) ≡ flat slot (x - 512 * g) (slots b - (x - 512 * g))
       unfolding slot_at
       dropped =
           let low = passed.low in let high = passed.high in let u = k.slots_is in
-          ap head
-          (flat_drop slot s (x - 512 * g) (slots b - s) (slots b - (x - 512 * g)) (omega arith) (omega arith)
-          (λ j a d. ap (λ (t : Bool). when t (slot_block g b j)) (zero_clear p.slots (512 * g + j) (passed.below (512 * g + j) (omega arith) (omega arith)))))
+          flat_drop slot s (x - 512 * g) (slots b - s) (slots b - (x - 512 * g)) (omega arith) (omega arith)
+          (λ j a d. ap (λ (t : Bool). when t (slot_block g b j)) (zero_clear p.slots (512 * g + j) (passed.below (512 * g + j) (omega arith) (omega arith))))
 
-      pub end_first : x - 512 * g ≡ n → FirstIn None
-      end_first m = by_kind e (none_from (x - 512 * g) (omega arith) ∙ sym dropped)
+      pub slots_dropped : blocks_from g s (kind_at p g) (slot_at p g) ≡ blocks_from g (x - 512 * g) (kind_at p g) (slot_at p g)
+      slots_dropped =
+          ap (λ (j : Kind). blocks_from g s j (slot_at p g)) (sym e) ∙ dropped ∙ ap (λ (j : Kind). blocks_from g (x - 512 * g) j (slot_at p g)) e
 
       -- the next taken slot
-      pub slot_first : x - 512 * g ≢ n → FirstIn (Some (found (4096 * g + (x - 512 * g) * z) z))
+      pub slot_first : x - 512 * g < n → FirstIn (Some (found (4096 * g + (x - 512 * g) * z) z))
       unfolding head slot_at
       slot_first m =
-          let low = passed.low in let high = passed.high in let u = k.slots_is in
-          let t : ℕ = x - 512 * g in
-          let l : x - 512 * g < n = omega arith in
+          let low = passed.low in let u = k.slots_is in
           let there : x ≡ 512 * g + (x - 512 * g) = omega arith in
           let taken : slot_at p g (x - 512 * g) ≡ true = one_set p.slots (512 * g + (x - 512 * g)) (ap (bit_at p.slots) (sym there) ∙ passed.here (omega arith)) in
           let more : slots b - (x - 512 * g) ≡ suc (slots b - (x - 512 * g + 1)) = omega arith in
           by_kind e
           (ap (λ (d : ℕ). Some (found (4096 * g + (x - 512 * g) * d) d)) k.size_is
-          ∙ sym (dropped ∙ ap head (flat_step slot (x - 512 * g) (slots b - (x - 512 * g)) (slots b - (x - 512 * g + 1)) more)
+          ∙ sym (ap head (dropped ∙ flat_step slot (x - 512 * g) (slots b - (x - 512 * g)) (slots b - (x - 512 * g + 1)) more)
           ∙ ap (λ (v : Bool). head (when v (slot_block g b (x - 512 * g)) ++ flat slot (x - 512 * g + 1) (slots b - (x - 512 * g + 1)))) taken))

@@ -3,11 +3,10 @@
 
 ghost use Rattle.std.specs.Prelude.{◌≡◌, ◌*◌, ◌/◌, ◌<◌};
 ghost use Rattle.classes.specs.Classes.{size};
-ghost use Rattle.records.specs.Pool.{kind_at, slot_at};
 ghost use Rattle.records.specs.Shown.{pool_of};
 ghost use Rattle.blocks.specs.Blocks.{live};
 ghost use Rattle.next.specs.Next.{first_from, answer_of};
-ghost use Rattle.next.specs.Walk.{head, blocks_from, Least, Started};
+ghost use Rattle.next.specs.Walk.{Least, Started};
 
 use records::Records;
 
@@ -69,38 +68,8 @@ fn start_of(pool: &Records, q: usize) -> Start
     }
 }
 
-// The first live block that begins at page g, of a class run that starts there one from slot s on. Free slots are passed a word at a time.
-fn first_in(pool: &Records, g: usize, s: usize) -> Option<Found>
-    requires { g < 512 * pool.now.chunks }
-    ensures { result ≡ head (blocks_from g s (kind_at (pool_of pool.now) g) (slot_at (pool_of pool.now) g)) }
-{
-    match pool.kind_at(g) {
-        records::Kind::Large(k) => Some(Found {
-            place: (4096 * g) as u64,
-            size: (4096 * (k + 1)) as u64,
-        }),
-        records::Kind::Class(b) => {
-            let row = classes::class_row(b);
-            let n = usize::from(row.slots);
-            let z = usize::from(row.size);
-            if n <= s {
-                return None;
-            }
-            let t = bitrow::next_bit(pool.slots, 512 * g + s, 512 * g + n, true) - 512 * g;
-            if t == n {
-                return None;
-            }
-            Some(Found {
-                place: (4096 * g + t * z) as u64,
-                size: z as u64,
-            })
-        }
-        _ => None,
-    }
-}
-
-// The search, on records that are sound: pages from the place on, left at the first live block. Free pages are passed a word at a time; so
-// no `for` goes from page to page.
+// The search, on records that are sound: chunks, pages and slots from the place on, three walks in one function, all left by one labelled
+// break at the first live block. Free pages and free slots are passed a word at a time, so no `for` goes from one to the next.
 pub fn next_sound(pool: &Records, q: u64) -> Option<Found>
     ensures { result ≡ first_from q (live pool.now.chunks (pool_of pool.now)) }
 {
@@ -108,17 +77,48 @@ pub fn next_sound(pool: &Records, q: u64) -> Option<Found>
         return None;
     }
     let start = start_of(pool, q as usize);
-    let end = 512 * pool.chunks as usize;
-    let mut page = start.page;
+    let chunks = pool.chunks as usize;
+    let mut chunk = q as usize / 4096 / 512;
+    let mut page = start.page - 512 * chunk;
     let mut slot = start.slot;
-    while page < end {
-        if let Some(found) = first_in(pool, page, slot) {
-            return Some(found);
+    let found = 'search: loop {
+        if chunk == chunks {
+            break 'search None;
         }
-        page = bitrow::next_bit(pool.bits, page + 1, end, true);
+        while page < 512 {
+            let g = 512 * chunk + page;
+            match pool.kind_at(g) {
+                records::Kind::Large(k) => {
+                    break 'search Some(Found {
+                        place: (4096 * g) as u64,
+                        size: (4096 * (k + 1)) as u64,
+                    });
+                }
+                records::Kind::Class(b) => {
+                    let row = classes::class_row(b);
+                    let n = usize::from(row.slots);
+                    let z = usize::from(row.size);
+                    while slot < n {
+                        slot = bitrow::next_bit(pool.slots, 512 * g + slot, 512 * g + n, true)
+                            - 512 * g;
+                        if slot < n {
+                            break 'search Some(Found {
+                                place: (4096 * g + slot * z) as u64,
+                                size: z as u64,
+                            });
+                        }
+                    }
+                }
+                _ => {}
+            }
+            page = bitrow::next_bit(pool.bits, g + 1, 512 * chunk + 512, true) - 512 * chunk;
+            slot = 0;
+        }
+        chunk += 1;
+        page = 1;
         slot = 0;
-    }
-    None
+    };
+    found
 }
 
 // What is answered: none has place 0 and size 0.
