@@ -6,7 +6,7 @@ use mathlib.Core.Option.{Option, none, some}
 use mathlib.Core.List.{List, []}
 use Prim.Native.Nat.{ℕ, zero, suc, ◌+◌, ◌*◌, ◌-◌, ◌%◌, ◌/◌, ◌^◌, ◌<◌}
 use native.Mathlib.Decide.{ℕ_discrete}
-use native.Mathlib.Nat.{div-one, mul-mod_right}
+use native.Mathlib.Nat.{mul-mod_right}
 use native.Mathlib.Omega.{arith}
 use lib.Dec.{eqb}
 use lib.ListN.{get_or}
@@ -126,12 +126,6 @@ pub record Walked (p : Pool) (i left due q l d acc bw : ℕ) : Type 0 where
   pub bits : bw ≡ get_or p.bits i 0 / 2 ^ q
   pub first : (64 * i + q) % 512 ≡ 0 → q < 64 → (l ≡ 0) × (get_or p.words (64 * i + q) 0 ≡ 0x40000001)
   pub says : (m : ℕ) → held acc (sound_from p (coming d l) (64 * i + q) (64 - q + m)) ≡ sound_from p (coming due left) (64 * i) (64 + m)
-
--- nothing is behind
-block_start : (p : Pool) (i : ℕ) (st : List ℕ) (m : ℕ) → held 0 (sound_from p st (64 * i + 0) (64 - 0 + m)) ≡ sound_from p st (64 * i) (64 + m)
-block_start p i st m =
-    let e : 64 * i + 0 ≡ 64 * i = omega arith in let r : 64 - 0 + m ≡ 64 + m = omega arith in
-    held_none (sound_from p st (64 * i + 0) (64 - 0 + m)) ∙ ap₂ (sound_from p st) e r
 
 -- all 64 are
 block_done : (p : Pool) (i q acc : ℕ) (st : List ℕ) (m : ℕ) → q ≡ 64 → held acc (sound_from p st (64 * i + 64) m) ≡ held acc (sound_from p st (64 * i + q) (64 - q + m))

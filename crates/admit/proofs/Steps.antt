@@ -71,10 +71,7 @@ run_other x xs w n =
     P : Kind → Type 0
     P k = step (x ∷ xs) k ≡ none
 
--- between runs: a free page's word that is not 0, and taken pages that begin nothing
-idle_free_bad : (w : ℕ) → w ≢ 0 → step [] (kind_of false false w) ≡ none
-idle_free_bad w h = ap (step []) (cond_ne w 0 Free Damaged h)
-
+-- between runs: a taken page that begins nothing
 idle_none : (w : ℕ) → (0x80000000 ≤ w → w < 0x8000001E → ⊥) → (0x40000001 ≤ w → w < 0x40000200 → ⊥) → step [] (kind_of false true w) ≡ none
 idle_none w n m =
     by_cases (dec_le 0xC0000000 w) (λ a. ap (step []) (kind_inner w a))
