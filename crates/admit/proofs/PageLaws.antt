@@ -43,9 +43,6 @@ held_or acc x a v e = ap (λ (t : Bool). cond t v false) (or_none acc x ∙ ap (
     go false true = refl
     go false false = refl
 
-held_none : (v : Bool) → held 0 v ≡ v
-held_none v = cond_eq 0 0 v false refl
-
 held_false : (acc : ℕ) → held acc false ≡ false
 held_false acc = go (eqb acc 0)
   where
