@@ -17,7 +17,7 @@ use Rattle.gaps.specs.declared.Gap.{Gap}
 use Rattle.gaps.specs.declared.Search.{Search}
 use Rattle.gaps.specs.Gaps.{gap, with_gap, gaps_from, gaps_of, better, shortest, searching, ahead, Ready, Shows, Searched, barred}
 use Rattle.gaps.proofs.Turns.{closed, skip}
-use Rattle.gaps.proofs.Scan.{gaps_taken, gaps_same, shortest_with, shortest_exact}
+use Rattle.gaps.proofs.Scan.{gaps_taken, gaps_same, shortest_with, better_exact, shortest_exact}
 
 -- ---- page 0
 
@@ -129,9 +129,9 @@ module _ {bits : List ℕ} {k n : ℕ} {before : Gap} where
         ∙ ap₂ (λ (g m : ℕ). shortest n s.best (gaps_from (barred bits k) g m (g - s.start))) end none
         ∙ c.same
 
-    pub chunk_settled : s.best.len ≡ n → s.best ≡ shortest n before (gaps_of bits k)
+    pub chunk_settled : (x : Gap) → s.best.len ≡ n → better n x s.best ≡ shortest n before (gaps_of bits k)
     unfolding ahead
-    chunk_settled e = sym (shortest_exact n s.best _ e) ∙ c.same
+    chunk_settled x e = better_exact n x s.best e ∙ sym (shortest_exact n s.best _ e) ∙ c.same
 
 -- a full chunk has no gap
 pub chunk_full : (bits : List ℕ) (k n r : ℕ) (before : Gap) → 8 * k < length bits → r ≡ next_bit 0 (barred bits k) (512 * k) 512 → r ≡ 512 * k + 512
