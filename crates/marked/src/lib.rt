@@ -12,8 +12,9 @@ ghost use Rattle.release.specs.Release.{give};
 ghost use Rattle.hints.specs.Hints.{Marks};
 ghost use Rattle.marked.specs.Marked.{code_of, carried, coded, SameRuns};
 
-use refusals::{NO_BLOCK, NO_ROOM, TOO_BIG};
+use hints::Hints;
 use records::Records;
+use refusals::{NO_BLOCK, NO_ROOM, TOO_BIG};
 
 // Reserves n bytes, more than a slot holds, in free pages; no room where no gap holds them.
 fn reserve_run(c: u64, bits: &mut [u64], words: &mut [u32], slots: &[u64], n: u64) -> u64
@@ -41,22 +42,26 @@ fn reserve_class(
     bits: &mut [u64],
     words: &mut [u32],
     slots: &mut [u64],
-    rows: &mut [u64],
-    opens: &mut [u8],
+    hints: &mut Hints,
     b: usize,
 ) -> u64
     requires sound { admit_of c (lent bits.old words.old slots.old) ≡ 0 }
-    requires marks { Marks (512 * c) (lent bits.old words.old slots.old) rows.old opens.old }
+    requires marks { Marks (512 * c) (lent bits.old words.old slots.old) hints.old.rows hints.old.opens }
     requires class { b < 30 }
     ensures given { leaves result (after bits.new words.new slots.new) ≡ carried (before bits.old words.old slots.old) (plan_class c bits.old b) }
-    ensures marks { Marks (512 * c) (after bits.new words.new slots.new) rows.new opens.new }
+    ensures marks { Marks (512 * c) (after bits.new words.new slots.new) hints.new.rows hints.new.opens }
 {
     let row = classes::class_row(b);
     match gaps::find_pages(c as usize, bits, usize::from(row.pages)) {
         Some(g) => {
             reserve::perform_plan(c, bits, words, slots, reserve::Plan::NewClass(g, b));
-            let pool = Records { chunks: c, bits, words, slots };
-            hints::note(&pool, rows, opens, g, b);
+            let pool = Records {
+                chunks: c,
+                bits,
+                words,
+                slots,
+            };
+            hints::note(&pool, hints, g, b);
             512 * g as u64
         }
         None => NO_ROOM,
@@ -69,24 +74,23 @@ fn reserve_now(
     bits: &mut [u64],
     words: &mut [u32],
     slots: &mut [u64],
-    rows: &mut [u64],
-    opens: &mut [u8],
+    hints: &mut Hints,
     n: u64,
 ) -> u64
     requires sound { admit_of c (lent bits.old words.old slots.old) ≡ 0 }
-    requires marks { Marks (512 * c) (lent bits.old words.old slots.old) rows.old opens.old }
+    requires marks { Marks (512 * c) (lent bits.old words.old slots.old) hints.old.rows hints.old.opens }
     ensures given { leaves result (after bits.new words.new slots.new) ≡ carried (before bits.old words.old slots.old) (plan c (before bits.old words.old slots.old) n) }
-    ensures marks { Marks (512 * c) (after bits.new words.new slots.new) rows.new opens.new }
+    ensures marks { Marks (512 * c) (after bits.new words.new slots.new) hints.new.rows hints.new.opens }
 {
     if 3072 < n {
         return reserve_run(c, bits, words, slots, n);
     }
     let b = classes::class_of(n as usize);
-    let t = hints::take(c, bits, words, slots, rows, opens, b);
+    let t = hints::take(c, bits, words, slots, hints, b);
     if t != 0 {
         return t as u64;
     }
-    reserve_class(c, bits, words, slots, rows, opens, b)
+    reserve_class(c, bits, words, slots, hints, b)
 }
 
 // What a plan gives, as a number.
@@ -107,23 +111,27 @@ fn reserve_swept(
     bits: &mut [u64],
     words: &mut [u32],
     slots: &mut [u64],
-    rows: &mut [u64],
-    opens: &mut [u8],
+    hints: &mut Hints,
     n: u64,
 ) -> u64
     requires sound { admit_of c (lent bits.old words.old slots.old) ≡ 0 }
-    requires marks { Marks (512 * c) (lent bits.old words.old slots.old) rows.old opens.old }
+    requires marks { Marks (512 * c) (lent bits.old words.old slots.old) hints.old.rows hints.old.opens }
     requires full { plan c (lent bits.old words.old slots.old) n ≡ Refuse no_room }
     ensures given { leaves result (after bits.new words.new slots.new) ≡ coded c (before bits.old words.old slots.old) n }
-    ensures marks { Marks (512 * c) (after bits.new words.new slots.new) rows.new opens.new }
+    ensures marks { Marks (512 * c) (after bits.new words.new slots.new) hints.new.rows hints.new.opens }
 {
     let x = reserve::make_room(c, bits, words, slots, n, reserve::Plan::Refuse(NO_ROOM));
     if reserve::is_full(x) {
         return NO_ROOM;
     }
     reserve::perform_plan(c, bits, words, slots, x);
-    let pool = Records { chunks: c, bits, words, slots };
-    hints::build(&pool, rows, opens);
+    let pool = Records {
+        chunks: c,
+        bits,
+        words,
+        slots,
+    };
+    hints::build(&pool, hints);
     code_of(x)
 }
 
@@ -133,20 +141,19 @@ pub fn reserve_marked(
     bits: &mut [u64],
     words: &mut [u32],
     slots: &mut [u64],
-    rows: &mut [u64],
-    opens: &mut [u8],
+    hints: &mut Hints,
     n: u64,
 ) -> u64
     requires sound { admit_of c (lent bits.old words.old slots.old) ≡ 0 }
-    requires marks { Marks (512 * c) (lent bits.old words.old slots.old) rows.old opens.old }
+    requires marks { Marks (512 * c) (lent bits.old words.old slots.old) hints.old.rows hints.old.opens }
     ensures given { leaves result (after bits.new words.new slots.new) ≡ coded c (before bits.old words.old slots.old) n }
-    ensures marks { Marks (512 * c) (after bits.new words.new slots.new) rows.new opens.new }
+    ensures marks { Marks (512 * c) (after bits.new words.new slots.new) hints.new.rows hints.new.opens }
 {
-    let r = reserve_now(c, bits, words, slots, rows, opens, n);
+    let r = reserve_now(c, bits, words, slots, hints, n);
     if r != NO_ROOM {
         return r;
     }
-    reserve_swept(c, bits, words, slots, rows, opens, n)
+    reserve_swept(c, bits, words, slots, hints, n)
 }
 
 // Gives back what starts at the place q.
@@ -155,19 +162,23 @@ pub fn release_marked(
     bits: &mut [u64],
     words: &mut [u32],
     slots: &mut [u64],
-    rows: &mut [u64],
-    opens: &mut [u8],
+    hints: &mut Hints,
     q: u64,
 ) -> u64
     requires sound { admit_of c (lent bits.old words.old slots.old) ≡ 0 }
-    requires marks { Marks (512 * c) (lent bits.old words.old slots.old) rows.old opens.old }
+    requires marks { Marks (512 * c) (lent bits.old words.old slots.old) hints.old.rows hints.old.opens }
     ensures given { leaves result (after bits.new words.new slots.new) ≡ give c (before bits.old words.old slots.old) q }
-    ensures marks { Marks (512 * c) (after bits.new words.new slots.new) rows.new opens.new }
+    ensures marks { Marks (512 * c) (after bits.new words.new slots.new) hints.new.rows hints.new.opens }
 {
     if 512 * c <= q / 4096 {
         return NO_BLOCK;
     }
-    let pool = Records { chunks: c, bits, words, slots };
+    let pool = Records {
+        chunks: c,
+        bits,
+        words,
+        slots,
+    };
     let at = q as usize;
     let page = at / 4096;
     if !pool.in_class(page) {
@@ -175,7 +186,5 @@ pub fn release_marked(
     }
     let run = pool.class_run(page);
     let off = at - 4096 * run.first;
-    hints::give(
-        c, bits, words, slots, rows, opens, run.first, run.class, off,
-    )
+    hints::give(c, bits, words, slots, hints, run.first, run.class, off)
 }
