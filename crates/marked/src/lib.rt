@@ -12,6 +12,7 @@ ghost use Rattle.release.specs.Release.{give};
 ghost use Rattle.hints.specs.Hints.{Marks};
 ghost use Rattle.marked.specs.Marked.{code_of, carried, coded, SameRuns};
 
+use hints::Hints;
 use records::Records;
 use refusals::{NO_BLOCK, NO_ROOM, TOO_BIG};
 
@@ -41,15 +42,14 @@ fn reserve_class(
     bits: &mut [u64],
     words: &mut [u32],
     slots: &mut [u64],
-    rows: &mut [u64],
-    opens: &mut [u8],
+    hints: &mut Hints,
     b: usize,
 ) -> u64
     requires sound { admit_of c (lent bits.old words.old slots.old) ≡ 0 }
-    requires marks { Marks (512 * c) (lent bits.old words.old slots.old) rows.old opens.old }
+    requires marks { Marks (512 * c) (lent bits.old words.old slots.old) hints.old.rows hints.old.opens }
     requires class { b < 30 }
     ensures given { leaves result (after bits.new words.new slots.new) ≡ carried (before bits.old words.old slots.old) (plan_class c bits.old b) }
-    ensures marks { Marks (512 * c) (after bits.new words.new slots.new) rows.new opens.new }
+    ensures marks { Marks (512 * c) (after bits.new words.new slots.new) hints.new.rows hints.new.opens }
 {
     let row = classes::class_row(b);
     match gaps::find_pages(c as usize, bits, usize::from(row.pages)) {
@@ -61,7 +61,7 @@ fn reserve_class(
                 words,
                 slots,
             };
-            hints::note(&pool, rows, opens, g, b);
+            hints::note(&pool, hints, g, b);
             512 * g as u64
         }
         None => NO_ROOM,
@@ -74,24 +74,23 @@ fn reserve_now(
     bits: &mut [u64],
     words: &mut [u32],
     slots: &mut [u64],
-    rows: &mut [u64],
-    opens: &mut [u8],
+    hints: &mut Hints,
     n: u64,
 ) -> u64
     requires sound { admit_of c (lent bits.old words.old slots.old) ≡ 0 }
-    requires marks { Marks (512 * c) (lent bits.old words.old slots.old) rows.old opens.old }
+    requires marks { Marks (512 * c) (lent bits.old words.old slots.old) hints.old.rows hints.old.opens }
     ensures given { leaves result (after bits.new words.new slots.new) ≡ carried (before bits.old words.old slots.old) (plan c (before bits.old words.old slots.old) n) }
-    ensures marks { Marks (512 * c) (after bits.new words.new slots.new) rows.new opens.new }
+    ensures marks { Marks (512 * c) (after bits.new words.new slots.new) hints.new.rows hints.new.opens }
 {
     if 3072 < n {
         return reserve_run(c, bits, words, slots, n);
     }
     let b = classes::class_of(n as usize);
-    let t = hints::take(c, bits, words, slots, rows, opens, b);
+    let t = hints::take(c, bits, words, slots, hints, b);
     if t != 0 {
         return t as u64;
     }
-    reserve_class(c, bits, words, slots, rows, opens, b)
+    reserve_class(c, bits, words, slots, hints, b)
 }
 
 // What a plan gives, as a number.
@@ -112,15 +111,14 @@ fn reserve_swept(
     bits: &mut [u64],
     words: &mut [u32],
     slots: &mut [u64],
-    rows: &mut [u64],
-    opens: &mut [u8],
+    hints: &mut Hints,
     n: u64,
 ) -> u64
     requires sound { admit_of c (lent bits.old words.old slots.old) ≡ 0 }
-    requires marks { Marks (512 * c) (lent bits.old words.old slots.old) rows.old opens.old }
+    requires marks { Marks (512 * c) (lent bits.old words.old slots.old) hints.old.rows hints.old.opens }
     requires full { plan c (lent bits.old words.old slots.old) n ≡ Refuse no_room }
     ensures given { leaves result (after bits.new words.new slots.new) ≡ coded c (before bits.old words.old slots.old) n }
-    ensures marks { Marks (512 * c) (after bits.new words.new slots.new) rows.new opens.new }
+    ensures marks { Marks (512 * c) (after bits.new words.new slots.new) hints.new.rows hints.new.opens }
 {
     let x = reserve::make_room(c, bits, words, slots, n, reserve::Plan::Refuse(NO_ROOM));
     if reserve::is_full(x) {
@@ -133,7 +131,7 @@ fn reserve_swept(
         words,
         slots,
     };
-    hints::build(&pool, rows, opens);
+    hints::build(&pool, hints);
     code_of(x)
 }
 
@@ -143,20 +141,19 @@ pub fn reserve_marked(
     bits: &mut [u64],
     words: &mut [u32],
     slots: &mut [u64],
-    rows: &mut [u64],
-    opens: &mut [u8],
+    hints: &mut Hints,
     n: u64,
 ) -> u64
     requires sound { admit_of c (lent bits.old words.old slots.old) ≡ 0 }
-    requires marks { Marks (512 * c) (lent bits.old words.old slots.old) rows.old opens.old }
+    requires marks { Marks (512 * c) (lent bits.old words.old slots.old) hints.old.rows hints.old.opens }
     ensures given { leaves result (after bits.new words.new slots.new) ≡ coded c (before bits.old words.old slots.old) n }
-    ensures marks { Marks (512 * c) (after bits.new words.new slots.new) rows.new opens.new }
+    ensures marks { Marks (512 * c) (after bits.new words.new slots.new) hints.new.rows hints.new.opens }
 {
-    let r = reserve_now(c, bits, words, slots, rows, opens, n);
+    let r = reserve_now(c, bits, words, slots, hints, n);
     if r != NO_ROOM {
         return r;
     }
-    reserve_swept(c, bits, words, slots, rows, opens, n)
+    reserve_swept(c, bits, words, slots, hints, n)
 }
 
 // Gives back what starts at the place q.
@@ -165,14 +162,13 @@ pub fn release_marked(
     bits: &mut [u64],
     words: &mut [u32],
     slots: &mut [u64],
-    rows: &mut [u64],
-    opens: &mut [u8],
+    hints: &mut Hints,
     q: u64,
 ) -> u64
     requires sound { admit_of c (lent bits.old words.old slots.old) ≡ 0 }
-    requires marks { Marks (512 * c) (lent bits.old words.old slots.old) rows.old opens.old }
+    requires marks { Marks (512 * c) (lent bits.old words.old slots.old) hints.old.rows hints.old.opens }
     ensures given { leaves result (after bits.new words.new slots.new) ≡ give c (before bits.old words.old slots.old) q }
-    ensures marks { Marks (512 * c) (after bits.new words.new slots.new) rows.new opens.new }
+    ensures marks { Marks (512 * c) (after bits.new words.new slots.new) hints.new.rows hints.new.opens }
 {
     if 512 * c <= q / 4096 {
         return NO_BLOCK;
@@ -190,7 +186,5 @@ pub fn release_marked(
     }
     let run = pool.class_run(page);
     let off = at - 4096 * run.first;
-    hints::give(
-        c, bits, words, slots, rows, opens, run.first, run.class, off,
-    )
+    hints::give(c, bits, words, slots, hints, run.first, run.class, off)
 }

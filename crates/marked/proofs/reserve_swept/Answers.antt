@@ -19,10 +19,6 @@ pub invariant_of-pool : goal.invariant_of-pool
 invariant_of-pool c =
     let left = c.make_room-x.ensures.left in let planned = c.make_room-x.ensures.plan in record { sound = ready_sound _ _ c.requires.sound _ left planned c.perform_plan.ensures }
 
-pub build-requires : goal.build-requires
-build-requires c =
-    let sound = c.requires.sound in let marks = c.requires.marks in let full = c.requires.full in let left = c.make_room-x.ensures.left in let planned = c.make_room-x.ensures.plan in record { long = marks.cuts.long; wide = marks.wide }
-
 pub code_of-requires : goal.code_of-requires
 code_of-requires c =
     let left = c.make_room-x.ensures.left in let planned = c.make_room-x.ensures.plan in ready_low _ _ c.requires.sound _ left planned
