@@ -9,6 +9,7 @@ use lib.ListN.{get_or, drop}
 use lib.Seq.{get_or-take, get_or-drop}
 use borrow.Author.Tests.{le-ltb}
 use borrow.Rule.Slice.PartMut.{put_mid}
+use Rattle.std.specs.Prelude.{Some, None}
 use Rattle.bitrow.specs.Row.{bit, Lowest}
 use Rattle.bitrow.proofs.Words.{bit_of_zero}
 use Rattle.bitrow.proofs.Lows.{one_within}
@@ -25,7 +26,7 @@ abbrev pub Leads : ℕ → Pool → List ℕ → List ℕ → ℕ → ℕ → �
 Leads c p rows opens b j w =
     Front p (lent_row rows b) opens j w
     × ((r : ℕ) (q : Pool) (row' opens' : List ℕ) → ((f : Front p (lent_row rows b) opens j w) → Took f r q row' opens')
-    → (leaves r q ≡ taking c p b) × Marks (512 * c) q (put_mid (144 * b) (144 * b + 144 - 144 * b) rows row') opens')
+    → (leaves (Some r) q ≡ taking c p b) × Marks (512 * c) q (put_mid (144 * b) (144 * b + 144 - 144 * b) rows row') opens')
 
 module _ (c : ℕ) (p : Pool) (ok : admit_of c p ≡ 0) (rows opens : List ℕ) (h : Marks (512 * c) p rows opens) (b : ℕ) (bl : b < 30) where
   abbrev lent : Part p (lent_row rows b) opens
@@ -81,7 +82,7 @@ module _ (c : ℕ) (p : Pool) (ok : admit_of c p ≡ 0) (rows opens : List ℕ) 
     leads_high t fits some f = leads 1 (144 * b + 128 + 1) (omega arith) (omega arith) (64 + t) t (omega arith) fits some f (λ k l. low_blank k (omega arith))
 
     -- no word has a mark
-    pub taken_none : high ≡ 0 → leaves 0 p ≡ taking c p b
+    pub taken_none : high ≡ 0 → leaves None p ≡ taking c p b
     unfolding taking
     taken_none e =
         let few = (part_shape lent).few in

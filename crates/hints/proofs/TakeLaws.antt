@@ -9,6 +9,7 @@ use native.Mathlib.Omega.{arith}
 use lib.Dec.{eqb, ltb}
 use lib.ListN.{length, get_or, set}
 use borrow.Author.Tests.{ltb-true, lt-ltb, eqb-true, eqb-false, not-true, not-false}
+use Rattle.std.specs.Prelude.{Some}
 use Rattle.bitrow.specs.Row.{digit, bit, Lowest, word_put}
 use Rattle.bitrow.proofs.Words.{digit_lt, bit_of_zero}
 use Rattle.bitrow.proofs.Masks.{put_other, put_lt}
@@ -167,7 +168,7 @@ module _ {p : Pool} {row opens : List ℕ} {j top : ℕ} (f : Front p row opens 
         (λ i m n. put_other 1 word u i (omega arith) n (omega arith) ∙ behind_clear c p f.part.good g b r.inside r.kind k i near n (omega arith))) in
         let here : 64 * (8 * g + k) + u ≡ 512 * g + lowest_free p.slots b g = omega arith in
         let first = r.first in (
-          ap₂ leaves here (is-q ∙ ap (put_slot 1 p g) (sym is)) ∙ rw (sym first, lt-ltb g (512 * c) r.inside) refl,
+          ap₂ leaves (ap Some here) (is-q ∙ ap (put_slot 1 p g) (sym is)) ∙ rw (sym first, lt-ltb g (512 * c) r.inside) refl,
           slot_back f.part 1 (omega arith) r.inside r.kind near few refl (digit_lt (not (full v))) says
               (byte k a.low ∙ ap (λ (z : ℕ). word_put (digit (not (full v))) z k) a.is) is-q
               (marked_is row j t l y (not (eqb x 0)) (part_cut f.part).long f.inside r.near (marks t r.mark)

@@ -1,6 +1,6 @@
 -- Marks beside sound records, for a caller that reserves and releases many times: where the free slots of each class are, in levels of one
 -- word each, so that the lowest one is found in a fixed number of steps, however many chunks there are. Assumes nothing.
-use Rattle.std.specs.Prelude.{◌≡◌, ◌≢◌, Bool, not, cond, ◌&&◌, List, ◌++◌, ℕ, ◌+◌, ◌-◌, ◌*◌, ◌/◌, ◌%◌, ◌≤◌, ◌<◌, min, eqb, ltb, length, get_or, take, drop}
+use Rattle.std.specs.Prelude.{◌≡◌, ◌≢◌, Bool, not, cond, ◌&&◌, Option, Some, None, List, ◌++◌, ℕ, ◌+◌, ◌-◌, ◌*◌, ◌/◌, ◌%◌, ◌≤◌, ◌<◌, min, eqb, ltb, length, get_or, take, drop}
 use Rattle.bitrow.specs.Row.{digit, bit, is_set, Lowest, put_bit}
 use Rattle.bitrow.specs.Mask.{mask_of}
 use Rattle.classes.specs.Classes.{size, slots}
@@ -155,16 +155,16 @@ pub record Front (p : Pool) (row opens : List ℕ) (j top : ℕ) : Type 0 where
 
 -- ---- what a call finds
 
--- the lowest free slot of class b is taken: 512 times its page and its number, where there is one; else 0
-unfoldable pub taking : ℕ → Pool → ℕ → Left ℕ Pool
+-- the lowest free slot of class b is taken: 512 times its page and its number, where there is one
+unfoldable pub taking : ℕ → Pool → ℕ → Left (Option ℕ) Pool
 taking c p b =
     let g = slot_page p b 0 (512 * c) in
     let s = lowest_free p.slots b g in
-    cond (ltb g (512 * c)) (leaves (512 * g + s) (put_slot 1 p g s)) (leaves 0 p)
+    cond (ltb g (512 * c)) (leaves (Some (512 * g + s)) (put_slot 1 p g s)) (leaves None p)
 
 -- the lowest free slot of the class in front was taken: the answer, the pool, and its row and bytes
 abbrev pub Took : {p : Pool} {row opens : List ℕ} {j top : ℕ} → Front p row opens j top → ℕ → Pool → List ℕ → List ℕ → Type 0
-Took {p} f r q row' opens' = (leaves r q ≡ taking f.part.chunks p f.part.class) × Back f.part q row' opens'
+Took {p} f r q row' opens' = (leaves (Some r) q ≡ taking f.part.chunks p f.part.class) × Back f.part q row' opens'
 
 -- what starts at byte `off` of the run of class b at page g is given back
 unfoldable pub giving : Pool → ℕ → ℕ → ℕ → Left ℕ Pool

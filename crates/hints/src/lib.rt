@@ -95,7 +95,7 @@ fn take_at(
     64 * i + bitrow::first_zero(w) as usize
 }
 
-// Takes the lowest free slot of class b; 0 where there is none.
+// Takes the lowest free slot of class b: 512 times its page and its number, where there is one.
 pub fn take(
     c: u64,
     bits: &[u64],
@@ -103,7 +103,7 @@ pub fn take(
     slots: &mut [u64],
     hints: &mut Hints,
     b: usize,
-) -> usize
+) -> Option<usize>
     requires sound { admit_of c (lent bits.now words.old slots.old) ≡ 0 }
     requires marks { Marks (512 * c) (lent bits.now words.old slots.old) hints.old.rows hints.old.opens }
     requires class { b < 30 }
@@ -116,14 +116,14 @@ pub fn take(
     let low = rows[from + TOP];
     if low != 0 {
         let j = bitrow::first_one(low) as usize;
-        return take_at(bits, words, slots, &mut rows[from..to], opens, j, low);
+        return Some(take_at(bits, words, slots, &mut rows[from..to], opens, j, low));
     }
     let high = rows[from + TOP + 1];
     if high != 0 {
         let j = 64 + bitrow::first_one(high) as usize;
-        return take_at(bits, words, slots, &mut rows[from..to], opens, j, high);
+        return Some(take_at(bits, words, slots, &mut rows[from..to], opens, j, high));
     }
-    0
+    None
 }
 
 // What starts at byte `off` of the run of class b at page g is given back: 0, or the refusal's number. Behind the last slot all bits are 0, so

@@ -1,11 +1,12 @@
 -- A reserve by marks is the reserve, told by a number. Assumes nothing.
-use mathlib.Core.Path.{◌≡◌, refl, sym, ap, ap₂, ◌∙◌, subst⁻¹}
+use mathlib.Core.Path.{◌≡◌, refl, sym, ap, ap₂, ◌∙◌, subst, subst⁻¹}
 use mathlib.Core.Logic.{◌≢◌}
 use mathlib.Core.Bool.{Bool, true, false, cond, false≢true}
 use mathlib.Core.List.{List}
 use Prim.Native.Nat.{ℕ, ◌-◌, ◌*◌, ◌≤◌, ◌<◌}
 use native.Mathlib.Omega.{arith}
 use borrow.Author.Tests.{eqb-true}
+use Rattle.std.specs.Prelude.{Option, Some, None}
 use Rattle.refusals.specs.Refusals.{no_room}
 use Rattle.classes.specs.Classes.{pages, class_for}
 use Rattle.classes.proofs.ClassLaws.{any_row}
@@ -25,7 +26,7 @@ use Rattle.reserve.specs.declared.Plan.{Plan}
 use Rattle.reserve.specs.declared.Plan.TheVariants.{Refuse, TakeSlot, NewClass, NewLarge}
 use Rattle.reserve.specs.Reserve.{lowest_free, slot_page, plan_class, plan_run, pages_for, plan, is_full, ready, perform}
 use Rattle.reserve.specs.Plans.{PlanOk, PlanLow}
-use Rattle.reserve.proofs.PlanLaws.{searched, has_free, class_ok, plan_in, plan_new, class_at, class_none, run_at, run_none, plan_small, plan_large_lem, large_run, large_huge}
+use Rattle.reserve.proofs.PlanLaws.{class_ok, plan_in, plan_new, class_at, class_none, run_at, run_none, plan_small, plan_large_lem, large_run, large_huge}
 use Rattle.reserve.proofs.StoreForms.{large_room, ok_as}
 use Rattle.reserve.proofs.AnswerForms.{plan_good, plan_low}
 use Rattle.reserve.proofs.ReadyLaws.{room_here, ready_admit, ready_plan}
@@ -137,8 +138,12 @@ module _ (c : ℕ) (p : Pool) (ok : admit_of c p ≡ 0) (b n : ℕ) (l : b < 30)
 
 module _ (c : ℕ) (p : Pool) (n b : ℕ) (l : n ≤ 3072) (e : b ≡ class_for n) where
   -- taken, or none is free
-  abbrev Taken : Left ℕ Pool → Type 0
-  Taken x = (x.answer ≢ 0 → x ≡ carried p (plan c p n)) × (x.answer ≡ 0 → (x.left ≡ p) × (plan_class c p.bits b ≡ plan c p n))
+  abbrev TakenAs : Option ℕ → Pool → Type 0
+  TakenAs (Some t) q = leaves t q ≡ carried p (plan c p n)
+  TakenAs None q = (q ≡ p) × (plan_class c p.bits b ≡ plan c p n)
+
+  abbrev Taken : Left (Option ℕ) Pool → Type 0
+  Taken x = TakenAs x.answer x.left
 
   taken : Taken (taking c p b)
   unfolding taking
@@ -146,24 +151,23 @@ module _ (c : ℕ) (p : Pool) (n b : ℕ) (l : n ≤ 3072) (e : b ≡ class_for 
       let g : ℕ = slot_page p b 0 (512 * c) in
       lt_cases Taken g (512 * c)
       (λ m.
-      let f = has_free c p b g m ((searched p b (512 * c) 0).here (omega arith)) in
-      let off = mid_off p g (subst⁻¹ Mid f.kind tt) in (
-        λ _. ap (carried p) (plan_small c p n b _ l e (plan_in c p b g (lowest_free p.slots b g) refl m refl)),
-        λ z. absurd (omega arith),
-      ))
-      (λ m. (λ z. absurd (z refl), λ _. (refl, plan_small c p n b _ l e (plan_new c p b g _ refl m refl))))
+      ap (carried p) (plan_small c p n b _ l e (plan_in c p b g (lowest_free p.slots b g) refl m refl)))
+      (λ m. (refl, plan_small c p n b _ l e (plan_new c p b g _ refl m refl)))
 
-  pub slot_taken : {t w : ℕ} {q : Pool} → leaves t q ≡ taking c p b → t ≢ 0 → w ≡ t → leaves w q ≡ carried p (plan c p n)
-  slot_taken {q = q} g z f = ap (λ (i : ℕ). leaves i q) f ∙ g ∙ taken.0 (λ y. z (ap (λ (x : Left ℕ Pool). x.answer) g ∙ y))
+  taken_as : {o x : Option ℕ} {q : Pool} → leaves o q ≡ taking c p b → o ≡ x → TakenAs x q
+  taken_as {q = q} g z = subst (λ (y : Option ℕ). TakenAs y q) z (subst⁻¹ Taken g taken)
 
-  module _ {t : ℕ} {q : Pool} (g : leaves t q ≡ taking c p b) (z : t ≡ 0) where
+  pub slot_taken : {o : Option ℕ} {t : ℕ} {q : Pool} → leaves o q ≡ taking c p b → o ≡ Some t → leaves t q ≡ carried p (plan c p n)
+  slot_taken g z = taken_as g z
+
+  module _ {o : Option ℕ} {q : Pool} (g : leaves o q ≡ taking c p b) (z : o ≡ None) where
     pub none_taken : q ≡ p
-    none_taken = ap (λ (x : Left ℕ Pool). x.left) g ∙ (taken.1 (sym (ap (λ (x : Left ℕ Pool). x.answer) g) ∙ z)).0
+    none_taken = (taken_as g z).0
 
     pub class_taken : {y : Left ℕ Pool} → y ≡ carried q (plan_class c q.bits b) → y ≡ carried p (plan c p n)
     class_taken f =
         f ∙ ap (λ (u : Pool). carried u (plan_class c u.bits b)) none_taken
-        ∙ ap (carried p) (taken.1 (sym (ap (λ (x : Left ℕ Pool). x.answer) g) ∙ z)).1
+        ∙ ap (carried p) (taken_as g z).1
 
 -- ---- behind a sweep where that is needed
 

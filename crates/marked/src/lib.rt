@@ -86,11 +86,10 @@ fn reserve_now(
         return reserve_run(c, bits, words, slots, n);
     }
     let b = classes::class_of(n as usize);
-    let t = hints::take(c, bits, words, slots, hints, b);
-    if t != 0 {
-        return t as u64;
+    match hints::take(c, bits, words, slots, hints, b) {
+        Some(t) => t as u64,
+        None => reserve_class(c, bits, words, slots, hints, b),
     }
-    reserve_class(c, bits, words, slots, hints, b)
 }
 
 // What a plan gives, as a number.
