@@ -4,8 +4,8 @@
 ghost use Rattle.std.specs.Prelude.{◌≡◌, ◌<◌, ◌≤◌, length, take, OnOk};
 ghost use Rattle.std.specs.Io.KnownBytes.{Consumes, IsAtEnd};
 
-use std::io::Read;
 use std::io;
+use std::io::Read;
 
 // Reads until the buffer is full, the input ends or a read fails: how many bytes stand at the start of the buffer now, which are all that
 // were taken from the input; and the error of the read that failed. On an empty buffer nothing is read.
