@@ -44,18 +44,18 @@ fn stray_slot(slots: &[u64], g: usize, masks: &[u64; 240], b: usize) -> u64
 
 // Where the check stands between two pages: the pages still to come in the run, and the word of the next.
 #[derive(Clone, Copy)]
-struct Progress {
-    left: u32,
-    due: u32,
+pub struct Progress {
+    pub left: u32,
+    pub due: u32,
 }
 
 // The same behind a page, and before it the page's stray slot bits. `page` computes the fields in this order: if the pages to come were
 // computed before the word, a page inside a large run would take a tenth more time.
 #[derive(Clone, Copy)]
-struct PageStep {
-    stray: u64,
-    due: u32,
-    left: u32,
+pub struct PageStep {
+    pub stray: u64,
+    pub due: u32,
+    pub left: u32,
 }
 
 // The word of the next page inside a run: large runs have zeros there, class runs count up.

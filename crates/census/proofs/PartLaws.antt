@@ -49,7 +49,7 @@ module _ (bits : List ℕ) (g s n r : ℕ) (h : s ≤ n) (e : r ≡ next_bit 1 b
   next_none l i x y = next_below i x (omega arith)
 
 module _ (bits : List ℕ) (g b : ℕ) where
-  slots_skip : {s n : ℕ} (r : ℕ) → s ≤ r → r ≤ n → ((i : ℕ) → s ≤ i → i < r → is_set bits (512 * g + i) ≡ false)
+  pub slots_skip : {s n : ℕ} (r : ℕ) → s ≤ r → r ≤ n → ((i : ℕ) → s ≤ i → i < r → is_set bits (512 * g + i) ≡ false)
       → slot_blocks bits g b s (n - s) ≡ slot_blocks bits g b r (n - r)
   unfolding slot_blocks
   slots_skip {s} {n} r a c f =

@@ -1,19 +1,32 @@
 -- A buffer that is written from its start, and the records that it makes. Assumes nothing.
 use mathlib.Core.Path.{◌≡◌, refl, sym, ap, ◌∙◌}
-use mathlib.Core.Bool.{Bool, true, false}
+use mathlib.Core.Bool.{Bool, true, false, cond}
 use mathlib.Core.List.{List, ◌∷◌}
-use Prim.Native.Nat.{ℕ, ◌+◌, ◌*◌}
+use Prim.Native.Nat.{ℕ, ◌+◌, ◌*◌, ◌%◌}
 use native.Mathlib.Omega.{arith}
+use lib.Dec.{eqb}
 use lib.ListN.{length}
 use Rattle.std.proofs.lemmas.List.FromFn.{fill_by_all}
 use Rattle.refusals.proofs.CallLaws.{refused}
 use Rattle.records.specs.Kinds.{edge_word, zeros}
 use Rattle.records.specs.Pool.{Pool, pool}
 use Rattle.records.specs.Calls.{fit, shape_of, leaves, repeat, fresh_pool, fresh_of}
-use Rattle.records.proofs.KindLaws.{length_zeros}
+use Rattle.records.proofs.KindLaws.{length_zeros, get_or_zeros}
 use Rattle.records.proofs.FreshLaws.{length_repeat, fresh_bits, fresh_words, fresh_served}
 use Rattle.records.proofs.AdmitLaws.{shaped_lengths, shape_unfit}
 use Rattle.fresh.specs.Fill.{each, row}
+
+-- ---- a row whose m-th elements are like the others
+
+each_zero : (m i : ℕ) → each {A = ℕ} m 0 0 i ≡ 0
+each_zero m i = go (eqb (i % m) 0)
+  where
+    go : (t : Bool) → cond {A = ℕ} t 0 0 ≡ 0
+    go true = refl
+    go false = refl
+
+pub row_zero : (m n : ℕ) {l : List ℕ} → l ≡ row (each {A = ℕ} m 0 0) n → l ≡ zeros n
+row_zero m n e = e ∙ sym (fill_by_all (each m 0 0) (zeros n) n 0 (length_zeros n) (λ i a. get_or_zeros n i ∙ sym (each_zero m i)))
 
 -- ---- the records
 

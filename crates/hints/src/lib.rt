@@ -28,25 +28,27 @@ const SHARE: usize = 140;
 
 const ROW: usize = 144;
 
-const ROWS: usize = 4320;
+pub const ROWS: usize = 4320;
 
-const PAGES: usize = 8192;
+// A byte for each page.
+pub const OPENS: usize = 8192;
 
-// The marks of a pool: the rows of all classes, and a byte for each page. A caller makes one and lends it on: it is too long to be copied.
+// Room for the marks of any pool, for a caller that keeps them: the rows of all classes, and a byte for each page. The calls take the two parts
+// as slices, so that marks may lie anywhere. A caller makes one and lends its parts on: it is too long to be copied.
 #[derive(Drop)]
 pub struct Hints {
     pub rows: [u64; ROWS],
-    pub opens: [u8; PAGES],
+    pub opens: [u8; OPENS],
 }
 
 impl Hints {
-    // Room for the marks of any pool: there are none before `build`.
+    // Room with no mark in it: `build` makes them.
     pub fn new() -> Hints
         ensures { (result.rows ≡ replicate 4320 0) × (result.opens ≡ replicate 8192 0) }
     {
         Hints {
             rows: [0; ROWS],
-            opens: [0; PAGES],
+            opens: [0; OPENS],
         }
     }
 }
@@ -101,16 +103,16 @@ pub fn take(
     bits: &[u64],
     words: &mut [u32],
     slots: &mut [u64],
-    hints: &mut Hints,
+    rows: &mut [u64],
+    opens: &mut [u8],
     b: usize,
 ) -> Option<usize>
     requires sound { admit_of c (lent bits.now words.old slots.old) ≡ 0 }
-    requires marks { Marks (512 * c) (lent bits.now words.old slots.old) hints.old.rows hints.old.opens }
+    requires marks { Marks (512 * c) (lent bits.now words.old slots.old) rows.old opens.old }
     requires class { b < 30 }
     ensures taken { leaves result (after bits.now words.new slots.new) ≡ taking c (before bits.now words.old slots.old) b }
-    ensures marks { Marks (512 * c) (after bits.now words.new slots.new) hints.new.rows hints.new.opens }
+    ensures marks { Marks (512 * c) (after bits.now words.new slots.new) rows.new opens.new }
 {
-    let Hints { rows, opens } = hints;
     let from = ROW * b;
     let to = from + ROW;
     let low = rows[from + TOP];
@@ -134,21 +136,22 @@ pub fn give(
     bits: &[u64],
     words: &mut [u32],
     slots: &mut [u64],
-    hints: &mut Hints,
+    rows: &mut [u64],
+    opens: &mut [u8],
     g: usize,
     b: usize,
     off: usize,
 ) -> u64
     requires sound { admit_of c (lent bits.now words.old slots.old) ≡ 0 }
-    requires marks { Marks (512 * c) (lent bits.now words.old slots.old) hints.old.rows hints.old.opens }
+    requires marks { Marks (512 * c) (lent bits.now words.old slots.old) rows.old opens.old }
     requires run { kind_at (lent bits.now words.old slots.old) g ≡ Class b }
     requires inside { (g < 512 * c) × (off < 4096 * pages b) }
     ensures given { leaves result (after bits.now words.new slots.new) ≡ giving (before bits.now words.old slots.old) g b off }
-    ensures marks { Marks (512 * c) (after bits.now words.new slots.new) hints.new.rows hints.new.opens }
+    ensures marks { Marks (512 * c) (after bits.now words.new slots.new) rows.new opens.new }
 {
     let from = ROW * b;
-    let s = (off * (hints.rows[from + SHARE] as usize)) / 4294967296;
-    if s * (hints.rows[from + SIZE] as usize) != off {
+    let s = (off * (rows[from + SHARE] as usize)) / 4294967296;
+    if s * (rows[from + SIZE] as usize) != off {
         return NO_BLOCK;
     }
     let k = s / 64;
@@ -156,15 +159,15 @@ pub fn give(
     let bit = 1 << (s % 64);
     let w = slots[i];
     if (w & bit) == 0 {
-        if (hints.rows[from + COUNT] as usize) <= s {
+        if (rows[from + COUNT] as usize) <= s {
             return NO_BLOCK;
         }
         return FREE_SLOT;
     }
     blocks::free_bit(bits, words, slots, i, bit);
-    hints.opens[g] |= 1 << k;
+    opens[g] |= 1 << k;
     let to = from + ROW;
-    set_mark(&mut hints.rows[from..to], g);
+    set_mark(&mut rows[from..to], g);
     0
 }
 
@@ -180,43 +183,45 @@ fn put_mark(row: &mut [u64], g: usize, v: bool)
 
 // The run of class b at page g is looked at anew: a slot word that is not the mask of its slots has a free one.
 #[tactic(auto, using(records::proofs::RunLaws::class_at_low))]
-pub fn note(pool: &Records, hints: &mut Hints, g: usize, b: usize)
-    requires cuts { Cuts hints.old.rows }
+pub fn note(pool: &Records, rows: &mut [u64], opens: &mut [u8], g: usize, b: usize)
+    requires cuts { (Cuts rows.old) × (length opens.old ≡ 8192) }
     requires run { kind_at (pool_of pool.now) g ≡ Class b }
     requires inside { g < 512 * pool.now.chunks }
-    ensures { Noted (pool_of pool.now) b g hints.old.rows hints.old.opens hints.new.rows hints.new.opens }
+    ensures { Noted (pool_of pool.now) b g rows.old opens.old rows.new opens.new }
 {
     let from = ROW * b;
     let mut o: u8 = 0;
     for k in 0..8 {
-        if pool.slots[8 * g + k] != hints.rows[from + MASK + k] {
+        if pool.slots[8 * g + k] != rows[from + MASK + k] {
             o |= 1 << k;
         }
     }
-    hints.opens[g] = o;
+    opens[g] = o;
     let to = from + ROW;
-    put_mark(&mut hints.rows[from..to], g, o != 0);
+    put_mark(&mut rows[from..to], g, o != 0);
 }
 
 // The marks of the pages up to g, page g among them.
-fn note_page(pool: &Records, hints: &mut Hints, g: usize)
-    requires marks { Marks g (pool_of pool.now) hints.old.rows hints.old.opens }
+fn note_page(pool: &Records, rows: &mut [u64], opens: &mut [u8], g: usize)
+    requires marks { Marks g (pool_of pool.now) rows.old opens.old }
     requires inside { g < 512 * pool.now.chunks }
-    ensures { Marks (g + 1) (pool_of pool.now) hints.new.rows hints.new.opens }
+    ensures { Marks (g + 1) (pool_of pool.now) rows.new opens.new }
 {
     if let records::Kind::Class(b) = pool.kind_at(g) {
-        note(pool, hints, g, b);
+        note(pool, rows, opens, g, b);
     }
 }
 
-// The marks of a pool, whatever `hints` held.
-pub fn build(pool: &Records, hints: &mut Hints)
-    ensures { Marks (512 * pool.now.chunks) (pool_of pool.now) hints.new.rows hints.new.opens }
+// The marks of a pool, whatever the rows held.
+pub fn build(pool: &Records, rows: &mut [u64], opens: &mut [u8])
+    requires long { length rows.old ≡ 4320 }
+    requires wide { length opens.old ≡ 8192 }
+    ensures { Marks (512 * pool.now.chunks) (pool_of pool.now) rows.new opens.new }
 {
-    start_rows(&mut hints.rows);
+    start_rows(rows);
     let n = 512 * (pool.chunks as usize);
     for g in 0..n {
-        note_page(pool, hints, g);
+        note_page(pool, rows, opens, g);
     }
 }
 

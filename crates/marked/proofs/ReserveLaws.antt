@@ -5,6 +5,7 @@ use mathlib.Core.Bool.{Bool, true, false, cond, false≢true}
 use mathlib.Core.List.{List}
 use Prim.Native.Nat.{ℕ, ◌-◌, ◌*◌, ◌≤◌, ◌<◌}
 use native.Mathlib.Omega.{arith}
+use lib.ListN.{length}
 use borrow.Author.Tests.{eqb-true}
 use Rattle.std.specs.Prelude.{Option, Some, None}
 use Rattle.refusals.specs.Refusals.{no_room}
@@ -127,8 +128,8 @@ module _ (c : ℕ) (p : Pool) (ok : admit_of c p ≡ 0) (b n : ℕ) (l : b < 30)
       but = subst⁻¹ (λ (r : Pool). SameBut (512 * c) p (512 * c) r b g) e (class_but c p (admit_good c p ok) g b class_room)
 
       -- the run is there to be looked at
-      pub class_note : (admit_of c q ≡ 0) × (Cuts rows × ((kind_at q g ≡ Class b) × (g < 512 * c)))
-      class_note = (performed_sound c p ok (NewClass g b) class_room e, (h.cuts, (but.here, but.inside)))
+      pub class_note : (admit_of c q ≡ 0) × ((Cuts rows × (length opens ≡ 8192)) × ((kind_at q g ≡ Class b) × (g < 512 * c)))
+      class_note = (performed_sound c p ok (NewClass g b) class_room e, ((h.cuts, h.wide), (but.here, but.inside)))
 
       pub class_noted : {w : ℕ} {rows' opens' : List ℕ} → w ≡ 512 * g → Noted q b g rows opens rows' opens'
           → (leaves w q ≡ carried p (plan_class c p.bits b)) × Marks (512 * c) q rows' opens'

@@ -12,7 +12,6 @@ ghost use Rattle.release.specs.Release.{give};
 ghost use Rattle.hints.specs.Hints.{Marks};
 ghost use Rattle.marked.specs.Marked.{code_of, carried, coded, SameRuns};
 
-use hints::Hints;
 use records::Records;
 use refusals::{NO_BLOCK, NO_ROOM, TOO_BIG};
 
@@ -42,14 +41,15 @@ fn reserve_class(
     bits: &mut [u64],
     words: &mut [u32],
     slots: &mut [u64],
-    hints: &mut Hints,
+    rows: &mut [u64],
+    opens: &mut [u8],
     b: usize,
 ) -> u64
     requires sound { admit_of c (lent bits.old words.old slots.old) ≡ 0 }
-    requires marks { Marks (512 * c) (lent bits.old words.old slots.old) hints.old.rows hints.old.opens }
+    requires marks { Marks (512 * c) (lent bits.old words.old slots.old) rows.old opens.old }
     requires class { b < 30 }
     ensures given { leaves result (after bits.new words.new slots.new) ≡ carried (before bits.old words.old slots.old) (plan_class c bits.old b) }
-    ensures marks { Marks (512 * c) (after bits.new words.new slots.new) hints.new.rows hints.new.opens }
+    ensures marks { Marks (512 * c) (after bits.new words.new slots.new) rows.new opens.new }
 {
     let row = classes::class_row(b);
     match gaps::find_pages(c as usize, bits, usize::from(row.pages)) {
@@ -61,7 +61,7 @@ fn reserve_class(
                 words,
                 slots,
             };
-            hints::note(&pool, hints, g, b);
+            hints::note(&pool, rows, opens, g, b);
             512 * g as u64
         }
         None => NO_ROOM,
@@ -74,21 +74,22 @@ fn reserve_now(
     bits: &mut [u64],
     words: &mut [u32],
     slots: &mut [u64],
-    hints: &mut Hints,
+    rows: &mut [u64],
+    opens: &mut [u8],
     n: u64,
 ) -> u64
     requires sound { admit_of c (lent bits.old words.old slots.old) ≡ 0 }
-    requires marks { Marks (512 * c) (lent bits.old words.old slots.old) hints.old.rows hints.old.opens }
+    requires marks { Marks (512 * c) (lent bits.old words.old slots.old) rows.old opens.old }
     ensures given { leaves result (after bits.new words.new slots.new) ≡ carried (before bits.old words.old slots.old) (plan c (before bits.old words.old slots.old) n) }
-    ensures marks { Marks (512 * c) (after bits.new words.new slots.new) hints.new.rows hints.new.opens }
+    ensures marks { Marks (512 * c) (after bits.new words.new slots.new) rows.new opens.new }
 {
     if 3072 < n {
         return reserve_run(c, bits, words, slots, n);
     }
     let b = classes::class_of(n as usize);
-    match hints::take(c, bits, words, slots, hints, b) {
+    match hints::take(c, bits, words, slots, rows, opens, b) {
         Some(t) => t as u64,
-        None => reserve_class(c, bits, words, slots, hints, b),
+        None => reserve_class(c, bits, words, slots, rows, opens, b),
     }
 }
 
@@ -110,14 +111,15 @@ fn reserve_swept(
     bits: &mut [u64],
     words: &mut [u32],
     slots: &mut [u64],
-    hints: &mut Hints,
+    rows: &mut [u64],
+    opens: &mut [u8],
     n: u64,
 ) -> u64
     requires sound { admit_of c (lent bits.old words.old slots.old) ≡ 0 }
-    requires marks { Marks (512 * c) (lent bits.old words.old slots.old) hints.old.rows hints.old.opens }
+    requires marks { Marks (512 * c) (lent bits.old words.old slots.old) rows.old opens.old }
     requires full { plan c (lent bits.old words.old slots.old) n ≡ Refuse no_room }
     ensures given { leaves result (after bits.new words.new slots.new) ≡ coded c (before bits.old words.old slots.old) n }
-    ensures marks { Marks (512 * c) (after bits.new words.new slots.new) hints.new.rows hints.new.opens }
+    ensures marks { Marks (512 * c) (after bits.new words.new slots.new) rows.new opens.new }
 {
     let x = reserve::make_room(c, bits, words, slots, n, reserve::Plan::Refuse(NO_ROOM));
     if reserve::is_full(x) {
@@ -130,7 +132,7 @@ fn reserve_swept(
         words,
         slots,
     };
-    hints::build(&pool, hints);
+    hints::build(&pool, rows, opens);
     code_of(x)
 }
 
@@ -140,19 +142,20 @@ pub fn reserve_marked(
     bits: &mut [u64],
     words: &mut [u32],
     slots: &mut [u64],
-    hints: &mut Hints,
+    rows: &mut [u64],
+    opens: &mut [u8],
     n: u64,
 ) -> u64
     requires sound { admit_of c (lent bits.old words.old slots.old) ≡ 0 }
-    requires marks { Marks (512 * c) (lent bits.old words.old slots.old) hints.old.rows hints.old.opens }
+    requires marks { Marks (512 * c) (lent bits.old words.old slots.old) rows.old opens.old }
     ensures given { leaves result (after bits.new words.new slots.new) ≡ coded c (before bits.old words.old slots.old) n }
-    ensures marks { Marks (512 * c) (after bits.new words.new slots.new) hints.new.rows hints.new.opens }
+    ensures marks { Marks (512 * c) (after bits.new words.new slots.new) rows.new opens.new }
 {
-    let r = reserve_now(c, bits, words, slots, hints, n);
+    let r = reserve_now(c, bits, words, slots, rows, opens, n);
     if r != NO_ROOM {
         return r;
     }
-    reserve_swept(c, bits, words, slots, hints, n)
+    reserve_swept(c, bits, words, slots, rows, opens, n)
 }
 
 // Gives back what starts at the place q.
@@ -161,13 +164,14 @@ pub fn release_marked(
     bits: &mut [u64],
     words: &mut [u32],
     slots: &mut [u64],
-    hints: &mut Hints,
+    rows: &mut [u64],
+    opens: &mut [u8],
     q: u64,
 ) -> u64
     requires sound { admit_of c (lent bits.old words.old slots.old) ≡ 0 }
-    requires marks { Marks (512 * c) (lent bits.old words.old slots.old) hints.old.rows hints.old.opens }
+    requires marks { Marks (512 * c) (lent bits.old words.old slots.old) rows.old opens.old }
     ensures given { leaves result (after bits.new words.new slots.new) ≡ give c (before bits.old words.old slots.old) q }
-    ensures marks { Marks (512 * c) (after bits.new words.new slots.new) hints.new.rows hints.new.opens }
+    ensures marks { Marks (512 * c) (after bits.new words.new slots.new) rows.new opens.new }
 {
     if 512 * c <= q / 4096 {
         return NO_BLOCK;
@@ -185,5 +189,7 @@ pub fn release_marked(
     }
     let run = pool.class_run(page);
     let off = at - 4096 * run.first;
-    hints::give(c, bits, words, slots, hints, run.first, run.class, off)
+    hints::give(
+        c, bits, words, slots, rows, opens, run.first, run.class, off,
+    )
 }

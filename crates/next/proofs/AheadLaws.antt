@@ -83,7 +83,7 @@ module _ {c : ℕ} {p : Pool} {q : ℕ} where
         record { same = unroll ∙ ap (λ (l : List Block). head (l ++ flat (page_blocks p) (suc g) (512 * c - suc g))) e ∙ sym (rest_first c p g i h) }
 
     -- a page that has no block left is passed
-    page_passed : None ≡ head here → Ahead c p q (suc g) 0
+    pub page_passed : None ≡ head here → Ahead c p q (suc g) 0
     page_passed e =
         record {
           same = unroll ∙ ap (λ (l : List Block). head (l ++ flat (page_blocks p) (suc g) (512 * c - suc g))) (head_none here e)

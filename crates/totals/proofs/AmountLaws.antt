@@ -1,6 +1,7 @@
 -- The number of live blocks and the sum of their sizes, page by page. Assumes nothing.
 use mathlib.Core.Path.{◌≡◌, refl, sym, ap, ap₂, ◌∙◌}
 use mathlib.Core.Bool.{Bool, true, false}
+use mathlib.Core.Logic.{◌≢◌}
 use mathlib.Core.List.{List, [], ◌∷◌, ◌++◌}
 use Prim.Native.Nat.{ℕ, zero, suc, ◌+◌, ◌*◌, ◌≤◌, ◌<◌}
 use native.Mathlib.Nat.{zero-add, mul-le-mul_right}
@@ -15,7 +16,7 @@ use Rattle.classes.specs.declared.Row.{Row}
 use Rattle.classes.specs.Classes.{row_at, size, slots}
 use Rattle.classes.proofs.ClassLaws.{any_row, size_read, slots_read}
 use Rattle.records.specs.declared.Kind.{Kind}
-use Rattle.records.specs.declared.Kind.TheVariants.{Large, Class}
+use Rattle.records.specs.declared.Kind.TheVariants.{Edge, Free, Damaged, Large, Class, Inner}
 use Rattle.records.specs.Pool.{Pool, kind_at, slot_at}
 use Rattle.records.specs.Calls.{admit_of}
 use Rattle.records.proofs.KindLaws.{Bare}
@@ -25,6 +26,7 @@ use Rattle.blocks.proofs.KeepLaws.{admit_good}
 use Rattle.blocks.proofs.ApartLaws.{live_rising}
 use Rattle.totals.specs.declared.Amount.{Amount}
 use Rattle.totals.specs.Totals.{given, amount_of}
+use Rattle.totals.specs.Rows.{class_in}
 
 abbrev pub amount : ℕ → ℕ → Amount
 amount n b = record { blocks = n; bytes = b }
@@ -113,6 +115,17 @@ bytes_few b {r} ss i {s} {n} {z} e f h k =
     let m : n * size b ≤ slots b * size b = mul-le-mul_right (size b) (omega arith) in
     let t = a.fit in let u = a.pages_most in
     rw big (omega arith)
+
+-- ---- the row of a page's class
+
+-- any page but the first of a class run
+pub others_zero : (k : Kind) → ((b : ℕ) → k ≢ Class b) → 0 ≡ class_in k
+others_zero Edge h = refl
+others_zero Free h = refl
+others_zero Damaged h = refl
+others_zero (Large k) h = refl
+others_zero (Class b) h = absurd (h b refl)
+others_zero (Inner w) h = refl
 
 -- ---- the pages one after the other
 

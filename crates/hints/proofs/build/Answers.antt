@@ -9,7 +9,7 @@ pub overflow_mul-n : goal.overflow_mul-n
 overflow_mul-n c = let h = (admitted _ _ c.args.pool.now.sound).shape in omega arith
 
 pub loop-g-init : goal.loop-g-init
-loop-g-init c = (refl, c.start_rows.ensures _ _ (omega arith))
+loop-g-init c = (refl, c.start_rows.ensures _ _ c.requires.wide)
 
 pub note_page-requires : goal.note_page-requires
 note_page-requires c = record { marks = c.loop-g.invariant.1; inside = omega arith }

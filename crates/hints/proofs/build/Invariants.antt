@@ -6,4 +6,4 @@ use mathlib.Core.Path.{◌≡◌}
 use Rattle.hints.proofs.build.Given as goal
 
 abbrev pub invariant-loop-g : goal.invariant-loop-g
-invariant-loop-g l = (l.n ≡ 512 * l.pool.chunks) × (Marks l.g (pool l.pool.bits.now l.pool.words.now l.pool.slots.now) l.hints.rows l.hints.opens)
+invariant-loop-g l = (l.n ≡ 512 * l.pool.chunks) × (Marks l.g (pool l.pool.bits.now l.pool.words.now l.pool.slots.now) l.rows l.opens)

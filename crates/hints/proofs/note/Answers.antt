@@ -16,15 +16,15 @@ loop-k-preserved c =
       h.0,
       h.1,
       elim c.if-pool-g.branch [
-        | then-pool-g w ↦ told_on _ _ sound _ _ inside run _ cuts (omega arith) h.2 (omega arith) w.if-pool-g.true w.o-is
-        | else-pool-g w ↦ told_off _ _ sound _ _ inside run _ cuts (omega arith) h.2 (omega arith) w.if-pool-g.false w.o-is
+        | then-pool-g w ↦ told_on _ _ sound _ _ inside run _ cuts.0 (omega arith) h.2 (omega arith) w.if-pool-g.true w.o-is
+        | else-pool-g w ↦ told_off _ _ sound _ _ inside run _ cuts.0 (omega arith) h.2 (omega arith) w.if-pool-g.false w.o-is
       ],
     )
 
 pub put_mark-requires : goal.put_mark-requires
-put_mark-requires c = let h = c.loop-k.invariant in (lent_long _ _ c.requires.cuts.long h.1.class, h.1.few)
+put_mark-requires c = let h = c.loop-k.invariant in (lent_long _ _ c.requires.cuts.0.long h.1.class, h.1.few)
 
 pub returns : goal.returns
 returns c =
-    noted_anew _ _ c.args.pool.now.sound _ _ c.requires.inside c.requires.run c.args.hints.now.rows c.args.hints.now.opens c.loop-k.invariant.2 (omega arith) _
+    noted_anew _ _ c.args.pool.now.sound _ _ c.requires.inside c.requires.run c.args.rows.now c.args.opens.now c.loop-k.invariant.2 (omega arith) _
     c.put_mark.ensures

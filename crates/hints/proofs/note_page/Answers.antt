@@ -6,7 +6,7 @@ use Rattle.hints.proofs.note_page.Goals as goal
 pub note-requires : goal.note-requires
 note-requires c =
     let marks = c.requires.marks in
-    record { cuts = marks.cuts; run = sym c.kind_at.ensures ∙ c.in-Class.is; inside = c.requires.inside }
+    record { cuts = (marks.cuts, marks.wide); run = sym c.kind_at.ensures ∙ c.in-Class.is; inside = c.requires.inside }
 
 pub returns-in-Class : goal.returns-in-Class
 returns-in-Class c = page_noted c.requires.marks (sym c.kind_at.ensures ∙ c.in-Class.is) c.note.ensures

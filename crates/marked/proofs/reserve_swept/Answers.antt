@@ -19,6 +19,9 @@ pub invariant_of-pool : goal.invariant_of-pool
 invariant_of-pool c =
     let left = c.make_room-x.ensures.left in let planned = c.make_room-x.ensures.plan in record { sound = ready_sound _ _ c.requires.sound _ left planned c.perform_plan.ensures }
 
+pub build-requires : goal.build-requires
+build-requires c = let marks = c.requires.marks in record { long = marks.cuts.long; wide = marks.wide }
+
 pub code_of-requires : goal.code_of-requires
 code_of-requires c =
     let left = c.make_room-x.ensures.left in let planned = c.make_room-x.ensures.plan in ready_low _ _ c.requires.sound _ left planned
